@@ -1,0 +1,9 @@
+-- Laws that several proofs cite; callers of the readers use those of WordLaws, LebLaws and FieldLaws.
+pub mod Numbers
+pub mod WordLaws
+pub mod Signs
+pub mod LebLaws
+pub mod Accepted
+pub mod LimitLaws
+pub mod FieldLaws
+pub mod Determined

@@ -1,0 +1,76 @@
+-- Laws of two's complement.
+use mathlib.Core.Bool.{Bool, true, false}
+use mathlib.Core.Logic.{⊎-elim}
+use mathlib.Core.Path.{_≡_, refl, sym, ap, _∙_}
+use Prim.Native.Nat.{ℕ, zero, suc, _+_, _-_, _*_, _^_, _≤_, _<_}
+use native.Mathlib.Omega.{arith}
+use native.Mathlib.Nat.{zero-add, add-mul}
+use borrow.Author.Tests.{lt-ltb, le-ltb, ltb-true, ltb-false}
+use lib.Dec.{ltb}
+use lib.IntN.{ℤ, pos, negsuc, _+ℤ_, _-ℤ_, _*ℤ_}
+use lib.Pow.{pow-add}
+use lib.Signed.{mag}
+use mir.Syntax.{w64}
+use mir.Val.{toZ}
+use mir.Facts.{toZ-pos}
+use Rattle.reader.specs.Leb128.{twos}
+use Rattle.reader.proofs.Numbers.{lt-or-le, ltb-bits}
+
+neg-one : (x : ℕ) → negsuc 0 -ℤ pos x ≡ negsuc x
+neg-one zero = refl
+neg-one (suc n) = ap (λ (k : ℕ). negsuc (suc k)) (zero-add n)
+
+-- the code's -1 - x
+pub minus : (x : ℕ) → x < 2 ^ 63 → negsuc 0 -ℤ toZ w64 x ≡ negsuc x
+minus x h = rw (toZ-pos w64 h) (neg-one x)
+
+sub-more : (v P : ℕ) → v < P → pos v -ℤ pos P ≡ negsuc (P - 1 - v)
+sub-more v zero h = absurd (omega arith)
+sub-more v (suc Q) h =
+    let e : suc Q - suc v ≡ suc Q - 1 - v = omega arith in
+    rw (lt-ltb v (suc Q) h, e)
+
+pub twos-low : (n v : ℕ) → v < 2 ^ (n - 1) → twos n v ≡ pos v
+unfolding twos
+twos-low n v h = rw (lt-ltb v (2 ^ (n - 1)) h)
+
+pub twos-high : (n v : ℕ) → 2 ^ (n - 1) ≤ v → v < 2 ^ n → twos n v ≡ negsuc (2 ^ n - 1 - v)
+unfolding twos
+twos-high n v h k = rw (le-ltb v (2 ^ (n - 1)) h) (sub-more v (2 ^ n) k)
+
+-- v of sh bits below the seven bits b
+module _ (v sh b : ℕ) (under : v < 2 ^ sh) where
+  top : sh + 7 - 1 ≡ sh + 6
+  top = omega arith
+
+  six : ltb (v + b * 2 ^ sh) (2 ^ (sh + 7 - 1)) ≡ ltb b 64
+  six = let e : sh + 6 - sh ≡ 6 = omega arith in rw top (ltb-bits (sh + 6) sh v b (omega arith) under ∙ rw e)
+
+  pub last-low : b < 64 → twos (sh + 7) (v + b * 2 ^ sh) ≡ pos (v + b * 2 ^ sh)
+  last-low h = twos-low (sh + 7) (v + b * 2 ^ sh) (ltb-true _ _ (six ∙ lt-ltb b 64 h))
+
+  complements : b < 128 → 2 ^ (sh + 7) - 1 - (v + b * 2 ^ sh) ≡ 2 ^ sh - 1 - v + (127 - b) * 2 ^ sh
+  complements k =
+      let e : 127 - b + b ≡ 127 = omega arith in
+      let f = rw e at (add-mul (127 - b) b (2 ^ sh)) in
+      rw (pow-add 2 sh 7) (omega arith)
+
+  pub last-high : 64 ≤ b → b < 128 → twos (sh + 7) (v + b * 2 ^ sh) ≡ negsuc (2 ^ sh - 1 - v + (127 - b) * 2 ^ sh)
+  last-high h k =
+      let e : sh + 7 - sh ≡ 7 = omega arith in
+      let a : 2 ^ (sh + 7 - 1) ≤ v + b * 2 ^ sh = ltb-false _ _ (six ∙ le-ltb b 64 h) in
+      let c : v + b * 2 ^ sh < 2 ^ (sh + 7) = ltb-true _ _ (ltb-bits (sh + 7) sh v b (omega arith) under ∙ rw e (lt-ltb b 128 k)) in
+      twos-high (sh + 7) (v + b * 2 ^ sh) a c ∙ ap negsuc (complements k)
+
+  -- it fits w bits where the last seven bits, signed, fit those left
+  pub last-fits : (w : ℕ) → sh < w → b < 128 → ltb (mag (twos (sh + 7) (v + b * 2 ^ sh))) (2 ^ (w - 1)) ≡ ltb (mag (twos 7 b)) (2 ^ (w - sh - 1))
+  last-fits w l k = ⊎-elim low high (lt-or-le b 64)
+    where
+      e : w - 1 - sh ≡ w - sh - 1
+      e = omega arith
+
+      low : b < 64 → ltb (mag (twos (sh + 7) (v + b * 2 ^ sh))) (2 ^ (w - 1)) ≡ ltb (mag (twos 7 b)) (2 ^ (w - sh - 1))
+      low h = rw (last-low h, twos-low 7 b h, ← e) (ltb-bits (w - 1) sh v b (omega arith) under)
+
+      high : 64 ≤ b → ltb (mag (twos (sh + 7) (v + b * 2 ^ sh))) (2 ^ (w - 1)) ≡ ltb (mag (twos 7 b)) (2 ^ (w - sh - 1))
+      high h = rw (last-high h k, twos-high 7 b h k, ← e) (ltb-bits (w - 1) sh (2 ^ sh - 1 - v) (127 - b) (omega arith) (omega arith))

@@ -1,0 +1,9 @@
+-- The definitions that the contracts of `reader` cite.
+pub mod Answer
+pub mod Errors
+pub mod Words
+pub mod Leb128
+pub mod Fields
+pub mod Limits
+pub mod Views
+pub mod Parts
