@@ -1,7 +1,8 @@
 -- A refusal's number says which refusal it is, so that an equation about a view determines the answer itself.
 use mathlib.Core.Path.{_≡_, refl, sym, ap, _∙_}
 use mathlib.Core.List.{List, [], _∷_}
-use Prim.Native.Nat.{ℕ, _-_}
+use Prim.Native.Nat.{ℕ, _-_, _<_}
+use native.Mathlib.Omega.{arith}
 use lib.ListN.{getD}
 use Rattle.reader.specs.Errors.{numberOf}
 use Rattle.reader.specs.declared.error.Error.{Error}
@@ -60,3 +61,27 @@ number-back error.InvalidTreeLevel = refl
 -- two refusals with one number are the same
 pub number-injective : (a b : Error) → numberOf a ≡ numberOf b → a ≡ b
 number-injective a b q = sym (number-back a) ∙ ap (λ (n : ℕ). getD errors (n - 1) error.SizeLimit) q ∙ number-back b
+
+-- no refusal has the number 0
+pub number-some : (e : Error) → 0 < numberOf e
+number-some error.SizeLimit = omega arith
+number-some error.UnexpectedEof = omega arith
+number-some error.BadUnsignedLeb128 = omega arith
+number-some error.BadSignedLeb128 = omega arith
+number-some error.UnknownReservedLength = omega arith
+number-some error.UnknownVersion = omega arith
+number-some error.UnsupportedAddressSize = omega arith
+number-some error.UnknownUnitType = omega arith
+number-some error.AbbreviationTagZero = omega arith
+number-some error.InvalidAbbreviationChildren = omega arith
+number-some error.AttributeNameZero = omega arith
+number-some error.AttributeFormZero = omega arith
+number-some error.TooManyAttributes = omega arith
+number-some error.DuplicateAbbreviationCode = omega arith
+number-some error.AbbreviationsFull = omega arith
+number-some error.InvalidAbbreviationCode = omega arith
+number-some error.UnknownForm = omega arith
+number-some error.InvalidImplicitConst = omega arith
+number-some error.OffsetOutOfBounds = omega arith
+number-some error.NoEntryAtGivenOffset = omega arith
+number-some error.InvalidTreeLevel = omega arith

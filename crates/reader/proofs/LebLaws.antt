@@ -10,8 +10,9 @@ use borrow.Author.Tests.{lt-ltb, le-ltb}
 use lib.Dec.{ltb}
 use lib.ListN.{length, take, drop, getD, length-take, length-drop, drop-of-length-le}
 use lib.Seq.{drop-cons, getD-take, getD-drop, length-take-le}
+use Rattle.reader.specs.Twos.{twos}
 use Rattle.reader.specs.Answer.{Answer, got, refused, andThen, orElse, gives, placed, Holds}
-use Rattle.reader.specs.Leb128.{through, mostBytes, extent, leb128, ulebAt, slebAt, pastAt, twos}
+use Rattle.reader.specs.Leb128.{through, mostBytes, extent, leb128, ulebAt, slebAt, pastAt}
 use Rattle.reader.specs.Parts.{Sound, Ended, wholeOf, integerOf}
 use Rattle.reader.specs.Words.{number}
 use lib.Signed.{mag}

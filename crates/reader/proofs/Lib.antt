@@ -1,4 +1,5 @@
 -- Laws that several proofs cite; callers of the readers use those of WordLaws, LebLaws and FieldLaws.
+pub mod Answers
 pub mod Numbers
 pub mod WordLaws
 pub mod Signs

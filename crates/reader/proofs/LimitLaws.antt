@@ -13,8 +13,9 @@ use lib.ListN.{length, take, drop, getD}
 use lib.Pow.{pow-mono}
 use lib.Seq.{length-take-le}
 use lib.Signed.{mag}
+use Rattle.reader.specs.Twos.{twos}
 use Rattle.reader.specs.Answer.{Answer, got, refused, andThen, Read, gives, placed, Holds}
-use Rattle.reader.specs.Leb128.{mostBytes, extent, leb128, unsigned, fitsUnsigned, signed, fitsSigned, twos, ulebAt, slebAt}
+use Rattle.reader.specs.Leb128.{mostBytes, extent, leb128, unsigned, fitsUnsigned, signed, fitsSigned, ulebAt, slebAt}
 use Rattle.reader.specs.Limits.{limited}
 use Rattle.reader.specs.Words.{number}
 use Rattle.reader.proofs.Numbers.{number-below, number-snoc, lt-or-le, ltb-bits}

@@ -5,15 +5,15 @@ use mathlib.Core.Path.{_≡_, refl, sym, ap, _∙_}
 use Prim.Native.Nat.{ℕ, zero, suc, _+_, _-_, _*_, _^_, _≤_, _<_}
 use native.Mathlib.Omega.{arith}
 use native.Mathlib.Nat.{zero-add, add-mul}
-use borrow.Author.Tests.{lt-ltb, le-ltb, ltb-true, ltb-false}
-use lib.Dec.{ltb}
-use lib.IntN.{ℤ, pos, negsuc, _+ℤ_, _-ℤ_, _*ℤ_}
+use borrow.Author.Tests.{lt-ltb, le-ltb, ltb-true, ltb-false, leb-false}
+use lib.Dec.{T, ltb}
+use lib.IntN.{ℤ, pos, negsuc, _+ℤ_, _-ℤ_, _*ℤ_, natAbs}
 use lib.Pow.{pow-add}
-use lib.Signed.{mag}
+use lib.Signed.{mag, leZ, nonNeg}
 use mir.Syntax.{w64}
 use mir.Val.{toZ}
 use mir.Facts.{toZ-pos}
-use Rattle.reader.specs.Leb128.{twos}
+use Rattle.reader.specs.Twos.{twos, word}
 use Rattle.reader.proofs.Numbers.{lt-or-le, ltb-bits}
 
 neg-one : (x : ℕ) → negsuc 0 -ℤ pos x ≡ negsuc x
@@ -74,3 +74,16 @@ module _ (v sh b : ℕ) (under : v < 2 ^ sh) where
 
       high : 64 ≤ b → ltb (mag (twos (sh + 7) (v + b * 2 ^ sh))) (2 ^ (w - 1)) ≡ ltb (mag (twos 7 b)) (2 ^ (w - sh - 1))
       high h = rw (last-high h k, twos-high 7 b h k, ← e) (ltb-bits (w - 1) sh (2 ^ sh - 1 - v) (127 - b) (omega arith) (omega arith))
+
+-- the code's word of a number
+pub natural : (z : ℤ) → leZ (pos 0) z ≡ true → T (nonNeg z) × (natAbs z ≡ word 64 z)
+unfolding word
+natural (pos n) t = (tt, refl)
+natural (negsuc n) t = let z : _≡_ {A = ℕ} 0 1 = cc in absurd (omega arith)
+
+pub below-zero : (z : ℤ) → leZ (pos 0) z ≡ false → (negsuc 0 -ℤ z ≡ pos (mag z)) × (word 64 z ≡ 2 ^ 64 - 1 - mag z)
+unfolding word
+below-zero (pos n) t = absurd (omega (arith, leb-false 0 n t))
+below-zero (negsuc n) t =
+    let e : suc n - 1 ≡ n = omega arith in
+    (rw (le-ltb (suc n) 1 (omega arith), e), refl)

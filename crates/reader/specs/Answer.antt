@@ -1,4 +1,5 @@
 -- Answers of every layer: a value, or the number of a refusal.
+use mathlib.Core.Option.{Option, none, some}
 use Prim.Native.Nat.{ℕ, _+_}
 
 -- a value, or the number of the question of document 01, "Questions at the counter", that was answered no
@@ -15,6 +16,11 @@ andThen (refused n) f = refused n
 abbrev pub orElse : {A : Type 0} → Answer A → Answer A → Answer A
 orElse (got a) b = got a
 orElse (refused n) b = b
+
+-- what follows where there is something, else b
+abbrev pub ifSome : {A B : Type 0} → Option A → B → (A → B) → B
+ifSome none b f = b
+ifSome (some a) b f = f a
 
 -- a value that was read, and the place after its last byte
 pub record Read (A : Type 0) : Type 0 where

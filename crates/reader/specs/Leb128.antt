@@ -4,9 +4,10 @@ use mathlib.Core.List.{List, [], _∷_}
 use Prim.Native.Nat.{ℕ, suc, _+_, _-_, _*_, _/_, _^_}
 use lib.Dec.{ltb}
 use lib.ListN.{length, take, drop}
-use lib.IntN.{ℤ, pos, _-ℤ_}
+use lib.IntN.{ℤ}
 use lib.Signed.{mag}
 use Rattle.reader.specs.Answer.{Answer, got, refused, andThen, orElse, Read, gives, placed}
+use Rattle.reader.specs.Twos.{twos}
 use Rattle.reader.specs.Words.{number}
 
 -- how many elements there are up to the first below m, with it; 2 where none is below m
@@ -34,10 +35,6 @@ unsigned bs = number 7 bs
 
 abbrev pub fitsUnsigned : ℕ → ℕ → Bool
 fitsUnsigned w v = ltb v (2 ^ w)
-
--- the number whose two's complement of n bits is v
-unfoldable pub twos : ℕ → ℕ → ℤ
-twos n v = cond (ltb v (2 ^ (n - 1))) (pos v) (pos v -ℤ pos (2 ^ n))
 
 -- signed: the same bits in two's complement, so that bit 6 of the last byte is the sign
 abbrev pub signed : List ℕ → ℤ

@@ -1,7 +1,9 @@
 -- The definitions that the contracts of `reader` cite.
 pub mod Answer
 pub mod Errors
+pub mod Sizes
 pub mod Words
+pub mod Twos
 pub mod Leb128
 pub mod Fields
 pub mod Limits

@@ -7,9 +7,10 @@ use lib.Dec.{ltb}
 use lib.IntN.{ℤ}
 use lib.ListN.{length, take, drop}
 use lib.Signed.{mag}
+use Rattle.reader.specs.Twos.{twos}
 use Rattle.reader.specs.Answer.{Answer, got, refused, Read, gives}
 use Rattle.reader.specs.Words.{number}
-use Rattle.reader.specs.Leb128.{mostBytes, extent, twos}
+use Rattle.reader.specs.Leb128.{mostBytes, extent}
 use Rattle.reader.specs.declared.endianity.RunTimeEndian.{RunTimeEndian}
 use Rattle.reader.specs.declared.endianity.RunTimeEndian.the-variants.{Little, Big}
 use Rattle.reader.specs.declared.leb128.Parts.{Parts}

@@ -3,6 +3,9 @@
 ghost use mathlib.Core.Path.{_≡_};
 ghost use Rattle.reader.specs.Fields.{wordSize, initialLengthSize};
 
+// The bytes that a section has at most.
+pub const MAX_SECTION: usize = 0x7fff_ffff;
+
 pub enum Format {
     Dwarf64,
     Dwarf32,
