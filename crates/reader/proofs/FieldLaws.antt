@@ -5,11 +5,15 @@ use mathlib.Core.List.{List}
 use Prim.Native.Nat.{ℕ, _+_, _-_, _^_, _≤_, _<_}
 use native.Mathlib.Omega.{arith}
 use borrow.Author.Tests.{le-leb, lt-leb, ne-eqb, leb-true, eqb-true}
-use lib.Dec.{leb, eqb}
+use lib.Dec.{leb, ltb, eqb}
 use lib.ListN.{length}
-use Rattle.reader.specs.Answer.{Answer, got, refused, Holds}
-use Rattle.reader.specs.Fields.{isAddressSize, addressAt, skipAt, wordSize, offsetAt}
+use Rattle.reader.specs.Answer.{Answer, got, refused, Read, gives, Holds}
+use Rattle.reader.specs.Fields.{isAddressSize, addressAt, skipAt, wordSize, initialLengthSize, Initial, longLengthAt, initialLengthAt}
 use Rattle.reader.specs.Words.{wordAt}
+use Rattle.reader.proofs.Answers.{holds-then, cond-by}
+use Rattle.reader.proofs.WordLaws.{WordIn, word-in}
+use Rattle.reader.specs.declared.common.Format.{Format}
+use Rattle.reader.specs.declared.common.Format.the-variants.{Dwarf32, Dwarf64}
 use Rattle.reader.specs.declared.endianity.RunTimeEndian.{RunTimeEndian}
 
 -- no other width
@@ -37,3 +41,30 @@ skip-in s at n = go (leb (at + n) (length s)) (leb-true (at + n) (length s))
     go : (t : Bool) → (t ≡ true → at + n ≤ length s) → Holds (λ p. (p ≡ at + n) × (p ≤ length s)) (cond t (got (at + n)) (refused 2))
     go true h = (refl, h refl)
     go false h = tt
+
+-- the widths of a format
+pub word-size-most : (f : Format) → wordSize f ≤ 8
+word-size-most Dwarf32 = omega arith
+word-size-most Dwarf64 = omega arith
+
+pub initial-length-size-most : (f : Format) → initialLengthSize f ≤ 12
+initial-length-size-most Dwarf32 = omega arith
+initial-length-size-most Dwarf64 = omega arith
+
+-- an initial length ends after as many bytes as its format says
+abbrev InitialIn : List ℕ → ℕ → Read Initial → Type 0
+InitialIn s at l = (l .next ≡ at + initialLengthSize (l .value .format)) × (l .next ≤ length s)
+
+long-in : (s : List ℕ) (at p : ℕ) (e : RunTimeEndian) → p ≡ at + 4 → Holds (InitialIn s at) (longLengthAt s p e)
+unfolding longLengthAt
+long-in s at p e q =
+    holds-then (WordIn s p 8) (InitialIn s at) (wordAt s p 8 e) _ (word-in s p 8 e) (λ r h. (omega (arith, h .next), omega (arith, h .next, h .there)))
+
+pub initial-in : (s : List ℕ) (at : ℕ) (e : RunTimeEndian) → Holds (λ l. (l .next ≡ at + initialLengthSize (l .value .format)) × (l .next ≤ length s)) (initialLengthAt s at e)
+unfolding initialLengthAt
+initial-in s at e =
+    holds-then (WordIn s at 4) (InitialIn s at) (wordAt s at 4 e) _ (word-in s at 4 e)
+    (λ r h.
+    cond-by (Holds (InitialIn s at)) (ltb (r .value) 0xfffffff0) _ _
+    (λ _. (h .next, omega (arith, h .next, h .there)))
+    (λ _. cond-by (Holds (InitialIn s at)) (eqb (r .value) 0xffffffff) _ (refused 5) (λ _. long-in s at (r .next) e (h .next)) (λ _. tt)))

@@ -4,7 +4,11 @@ ghost use Prim.Native.Nat.{_≤_};
 use abbrev::table::Abbreviations;
 use abbrev::table::DebugAbbrev;
 use libc::STDOUT_FILENO;
+use reader::endianity::RunTimeEndian;
 use reader::error::Error;
+use unit::parse::Header;
+use unit::units::DebugInfo;
+use unit::units::NextUnit;
 
 // A table of one abbreviation with so many attributes, and what the table call answers.
 fn pairs(n: usize) -> Abbreviations
@@ -28,11 +32,14 @@ fn digit(n: u64) -> u8 {
     (n % 10 + 48) as u8
 }
 
-fn refused(e: Error) {
-    let n = e.number();
+fn say(n: u64) {
     let text = [digit(n / 10), digit(n), 10];
-    io::write_all(STDOUT_FILENO, b"refused ");
     io::write_all(STDOUT_FILENO, &text);
+}
+
+fn refused(e: Error) {
+    io::write_all(STDOUT_FILENO, b"refused ");
+    say(e.number());
 }
 
 fn show(a: Abbreviations) {
@@ -44,9 +51,61 @@ fn show(a: Abbreviations) {
     }
 }
 
+// The first unit of a section.
+fn first(section: &[u8]) {
+    let next = DebugInfo::units().next(section, RunTimeEndian::Little);
+    let unit = next.unit;
+    match unit {
+        NextUnit::Header(_) => {
+            io::write_all(STDOUT_FILENO, b"read\n");
+        }
+        NextUnit::NoMore => {
+            io::write_all(STDOUT_FILENO, b"no unit\n");
+        }
+        NextUnit::Refused(e) => refused(e),
+    }
+}
+
+// Whether reading may start at an offset of the unit at 0: 0, or the refusal.
+fn start(section: &[u8], offset: usize) {
+    match DebugInfo::header_from_offset(section, 0, RunTimeEndian::Little) {
+        Header::Got(header, _) => {
+            let mut refusal: u64 = 0;
+            let unit = header.bytes(section, &mut refusal);
+            let part = header.range_from(unit, offset, &mut refusal);
+            say(refusal);
+            say(part.len() as u64);
+        }
+        Header::Refused(e) => refused(e),
+    }
+}
+
+fn headers() {
+    io::write_all(STDOUT_FILENO, b"empty section: ");
+    first(b"");
+    io::write_all(STDOUT_FILENO, b"version 5, type 7, width 3: ");
+    first(b"\x08\x00\x00\x00\x05\x00\x07\x03\x00\x00\x00\x00");
+    io::write_all(STDOUT_FILENO, b"version 1: ");
+    first(b"\x07\x00\x00\x00\x01\x00\x00\x00\x00\x00\x08");
+    io::write_all(STDOUT_FILENO, b"version 6: ");
+    first(b"\x07\x00\x00\x00\x06\x00\x00\x00\x00\x00\x08");
+}
+
+fn starts() {
+    let unit = b"\x0f\x00\x00\x00\x04\x00\x00\x00\x00\x00\x08\x01\x61\x00\x02\x05\x02\x07\x00";
+    io::write_all(STDOUT_FILENO, b"offset 10 of the example: ");
+    start(unit, 10);
+    io::write_all(STDOUT_FILENO, b"offset 11: ");
+    start(unit, 11);
+    io::write_all(STDOUT_FILENO, b"offset 19: ");
+    start(unit, 19);
+}
+
 fn main() {
     io::write_all(STDOUT_FILENO, b"64 pairs: ");
     show(pairs(64));
     io::write_all(STDOUT_FILENO, b"65 pairs: ");
     show(pairs(65));
+    headers();
+    starts();
 }

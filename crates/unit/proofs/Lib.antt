@@ -1,0 +1,4 @@
+-- Laws that several proofs cite.
+pub mod HeaderLaws
+pub mod ParseLaws
+pub mod RangeLaws

@@ -1,0 +1,53 @@
+-- Laws of parts of a unit.
+use mathlib.Core.Bool.{Bool, true, false, cond, and-false}
+use mathlib.Core.Logic.{⊎-elim}
+use mathlib.Core.Path.{_≡_, refl, sym, ap, _∙_}
+use mathlib.Core.List.{List}
+use Prim.Native.Nat.{ℕ, _+_, _-_, _≤_, _<_}
+use native.Mathlib.Omega.{arith}
+use borrow.Author.Tests.{le-leb, lt-leb}
+use lib.Dec.{leb}
+use lib.ListN.{length, take, drop}
+use Rattle.reader.specs.Answer.{Answer, got, refused}
+use Rattle.reader.proofs.Numbers.{lt-or-le}
+use Rattle.unit.specs.Header.{unitEnd, inBounds}
+use Rattle.unit.specs.Range.{part, unitBytes, rangeOf, rangeFrom, rangeTo}
+use Rattle.unit.specs.declared.header.UnitHeader.{UnitHeader}
+
+module _ (s : List ℕ) (a b : ℕ) where
+  pub part-backward : b < a → part s a b ≡ refused 19
+  unfolding part
+  part-backward h = rw (lt-leb a b h)
+
+  pub part-long : length s < b → part s a b ≡ refused 19
+  unfolding part
+  part-long h = rw (lt-leb b (length s) h, and-false)
+
+  pub part-there : a ≤ b → b ≤ length s → part s a b ≡ got (take (b - a) (drop a s))
+  unfolding part
+  part-there h k = rw (le-leb a b h, le-leb b (length s) k)
+
+-- an end past the slice is as good as any other
+pub part-end : (s : List ℕ) (a b n : ℕ) → length s ≤ a + n → part s a (a + cond (leb b n) b (n + 1)) ≡ part s a (a + b)
+part-end s a b n h = ⊎-elim yes no (lt-or-le n b)
+  where
+    yes : n < b → part s a (a + cond (leb b n) b (n + 1)) ≡ part s a (a + b)
+    yes k = rw (lt-leb b n k) (part-long s a (a + (n + 1)) (omega arith) ∙ sym (part-long s a (a + b) (omega arith)))
+
+    no : b ≤ n → part s a (a + cond (leb b n) b (n + 1)) ≡ part s a (a + b)
+    no k = rw (le-leb b n k)
+
+pub part-whole : (s : List ℕ) (a b : ℕ) → part s a (cond (leb b (length s)) b (length s + 1)) ≡ part s a b
+part-whole s a b = ⊎-elim yes no (lt-or-le (length s) b)
+  where
+    yes : length s < b → part s a (cond (leb b (length s)) b (length s + 1)) ≡ part s a b
+    yes k = rw (lt-leb b (length s) k) (part-long s a (length s + 1) (omega arith) ∙ sym (part-long s a b k))
+
+    no : b ≤ length s → part s a (cond (leb b (length s)) b (length s + 1)) ≡ part s a b
+    no k = rw (le-leb b (length s) k)
+
+pub end-most : (b n : ℕ) → cond (leb b n) b (n + 1) ≤ n + 1
+end-most b n = ⊎-elim
+    (λ k. rw (lt-leb b n k) (omega arith))
+    (λ k. rw (le-leb b n k) (omega arith))
+    (lt-or-le n b)

@@ -1,0 +1,102 @@
+-- A unit header read (DWARF 2 to 5, section 7.5.1). The section and the versions let in are parameters.
+use mathlib.Core.Bool.{cond, _&&_}
+use mathlib.Core.List.{List}
+use Prim.Native.Nat.{ℕ, _+_}
+use lib.Dec.{leb, eqb}
+use lib.ListN.{length, take}
+use Rattle.reader.specs.Answer.{Answer, got, refused, andThen, Read, gives}
+use Rattle.reader.specs.Fields.{Initial, initialLengthAt, addressSizeAt, offsetAt, skipAt}
+use Rattle.reader.specs.Sizes.{maxSection}
+use Rattle.reader.specs.Words.{wordAt}
+use Rattle.reader.specs.declared.common.Format.{Format}
+use Rattle.reader.specs.declared.endianity.RunTimeEndian.{RunTimeEndian}
+use Rattle.reader.specs.declared.endianity.RunTimeEndian.the-variants.{Little}
+use Rattle.unit.specs.declared.header.UnitHeader.{UnitHeader}
+use Rattle.unit.specs.declared.header.UnitType.{UnitType}
+use Rattle.unit.specs.declared.header.UnitType.the-variants.{Compilation, «Type», Partial, Skeleton, SplitCompilation, SplitType}
+
+-- the number of the unit type that a section has before version 5, and the refusal of a version in a format, 0 where it is let in
+pub record Section : Type 0 where
+  pub older : ℕ
+  pub judge : ℕ → Format → ℕ
+
+-- .debug_info: compilation units before version 5; 01, question 6: versions 2 to 5
+abbrev pub debugInfo : Section
+debugInfo = record { older = 1; judge = λ version format. cond (leb 2 version && leb version 5) 0 6 }
+
+-- a type signature and the offset of the type in the unit
+pub record Signature : Type 0 where
+  pub signature : ℕ
+  pub offset : ℕ
+
+unfoldable pub signatureAt : List ℕ → ℕ → Format → RunTimeEndian → Answer (Read Signature)
+signatureAt s at f e =
+    andThen (wordAt s at 8 e)
+    (λ x. andThen (offsetAt s (x .next) f e) (λ y. gives (record { signature = x .value; offset = y .value }) (y .next)))
+
+-- what a unit of a type has behind the common fields; 01, question 8
+unfoldable pub typeAt : List ℕ → ℕ → ℕ → Format → RunTimeEndian → Answer (Read UnitType)
+typeAt s at n f e =
+    cond (eqb n 1) (gives Compilation at)
+    (cond (eqb n 2) (andThen (signatureAt s at f e) (λ r. gives («Type» (r .value .signature) (r .value .offset)) (r .next)))
+    (cond (eqb n 3) (gives Partial at)
+    (cond (eqb n 4) (andThen (wordAt s at 8 e) (λ r. gives (Skeleton (r .value)) (r .next)))
+    (cond (eqb n 5) (andThen (wordAt s at 8 e) (λ r. gives (SplitCompilation (r .value)) (r .next)))
+    (cond (eqb n 6) (andThen (signatureAt s at f e) (λ r. gives (SplitType (r .value .signature) (r .value .offset)) (r .next)))
+    (refused 8))))))
+
+-- the offset of the table, the address width and the number of the unit type
+pub record Common : Type 0 where
+  pub table : ℕ
+  pub width : ℕ
+  pub number : ℕ
+
+-- versions 2 to 4: table offset, address width
+unfoldable pub olderAt : List ℕ → ℕ → ℕ → Format → RunTimeEndian → Answer (Read Common)
+olderAt s at older f e =
+    andThen (offsetAt s at f e)
+    (λ a. andThen (addressSizeAt s (a .next)) (λ w. gives (record { table = a .value; width = w .value; number = older }) (w .next)))
+
+-- version 5: unit type, address width, table offset
+unfoldable pub typedAt : List ℕ → ℕ → ℕ → Format → RunTimeEndian → Answer (Read Common)
+typedAt s at number f e =
+    andThen (addressSizeAt s at)
+    (λ w. andThen (offsetAt s (w .next) f e) (λ a. gives (record { table = a .value; width = w .value; number = number }) (a .next)))
+
+unfoldable pub newerAt : List ℕ → ℕ → Format → RunTimeEndian → Answer (Read Common)
+newerAt s at f e = andThen (wordAt s at 1 Little) (λ t. typedAt s (t .next) (t .value) f e)
+
+unfoldable pub commonAt : Section → List ℕ → ℕ → ℕ → Format → RunTimeEndian → Answer (Read Common)
+commonAt sec s at version f e =
+    cond (eqb (sec .judge version f) 0)
+    (cond (eqb version 5) (newerAt s at f e) (olderAt s at (sec .older) f e))
+    (refused (sec .judge version f))
+
+-- what follows the version
+unfoldable pub restAt : Section → List ℕ → ℕ → Initial → ℕ → ℕ → RunTimeEndian → Answer (Read UnitHeader)
+restAt sec s at l version p e =
+    andThen (commonAt sec s p version (l .format) e)
+    (λ c.
+    andThen (typeAt s (c .next) (c .value .number) (l .format) e)
+    (λ t.
+    gives
+    (record {
+      offset = at;
+      «unit_length» = l .unit-length;
+      encoding = record { «address_size» = c .value .width; format = l .format; version = version };
+      «debug_abbrev_offset» = c .value .table;
+      «unit_type» = t .value;
+    })
+    (t .next)))
+
+-- what follows the initial length, in the bytes up to the unit's end
+unfoldable pub bodyAt : Section → List ℕ → ℕ → Initial → ℕ → RunTimeEndian → Answer (Read UnitHeader)
+bodyAt sec s at l p e = andThen (wordAt s p 2 e) (λ v. restAt sec s at l (v .value) (v .next) e)
+
+-- the header at a place of a section, and where its entries start. 01: length, then the unit's bytes are there, version, ..
+unfoldable pub headerAt : Section → List ℕ → ℕ → RunTimeEndian → Answer (Read UnitHeader)
+headerAt sec s at e =
+    cond (leb (length s) maxSection)
+    (andThen (initialLengthAt s at e)
+    (λ l. andThen (skipAt s (l .next) (l .value .unit-length)) (λ end. bodyAt sec (take end s) at (l .value) (l .next) e)))
+    (refused 1)

@@ -1,0 +1,107 @@
+// Parts of a unit, handed back out of the caller's slice. The number beside a part is 0, or 19 where
+// there is none.
+
+ghost use mathlib.Core.Bool.{cond};
+ghost use mathlib.Core.Path.{_≡_};
+ghost use Prim.Native.Nat.{_+_, _^_, _<_};
+ghost use lib.Dec.{leb};
+ghost use Rattle.reader.specs.Answer.{refused};
+ghost use Rattle.unit.specs.Header.{unitEnd};
+ghost use Rattle.unit.specs.Range.{Handed, part, unitBytes, rangeOf, rangeFrom, rangeTo};
+use super::header::UnitHeader;
+
+// Refused.
+fn none<'a, 'b>(bytes: &'a [u8], refusal: &'b mut u64) -> &'a [u8]
+    ensures { λ r. ⌜ Handed (refused 19) (now r) (now (refusal .exit)) ⌝ }
+{
+    *refusal = 19;
+    &bytes[0..0]
+}
+
+// The bytes from `from` up to `to`.
+pub fn part<'a, 'b>(bytes: &'a [u8], from: usize, to: usize, refusal: &'b mut u64) -> &'a [u8]
+    ensures { λ r. ⌜ Handed (part (now (bytes .entry)) from to) (now r) (now (refusal .exit)) ⌝ }
+{
+    if to < from {
+        return none(bytes, refusal);
+    }
+    if bytes.len() < to {
+        return none(bytes, refusal);
+    }
+    *refusal = 0;
+    &bytes[from..to]
+}
+
+// Where the unit ends, from its first byte; `most` and 1 more where that is past `most`.
+fn end_within(header: UnitHeader, most: usize) -> usize
+    requires { ⌜ most < 2 ^ 63 ⌝ }
+    ensures { λ r. ⌜ r ≡ cond (leb (unitEnd header) most) (unitEnd header) (most + 1) ⌝ }
+{
+    let encoding = header.encoding;
+    let format = encoding.format;
+    let length = header.unit_length;
+    let size = format.initial_length_size() as u64;
+    let whole = most as u64;
+    if whole < length {
+        return most + 1;
+    }
+    if whole - length < size {
+        return most + 1;
+    }
+    (size + length) as usize
+}
+
+impl UnitHeader {
+    // The unit's own bytes, from its first length byte on.
+    pub fn bytes<'a, 'b>(self, section: &'a [u8], refusal: &'b mut u64) -> &'a [u8]
+        ensures { λ r. ⌜ Handed (unitBytes self (now (section .entry))) (now r) (now (refusal .exit)) ⌝ }
+    {
+        let offset = self.offset;
+        if section.len() < offset {
+            return none(section, refusal);
+        }
+        let end = offset + end_within(self, section.len() - offset);
+        part(section, offset, end, refusal)
+    }
+
+    // The entries from `start` up to `end`, offsets in the unit, out of the unit's own bytes.
+    pub fn range<'a, 'b>(
+        self,
+        unit: &'a [u8],
+        start: usize,
+        end: usize,
+        refusal: &'b mut u64,
+    ) -> &'a [u8]
+        ensures { λ r. ⌜ Handed (rangeOf self (now (unit .entry)) start end) (now r) (now (refusal .exit)) ⌝ }
+    {
+        if self.is_in_bounds(start) {
+            if self.is_in_bounds(end) {
+                return part(unit, start, end, refusal);
+            }
+            return none(unit, refusal);
+        }
+        none(unit, refusal)
+    }
+
+    // The entries from `start` on.
+    pub fn range_from<'a, 'b>(self, unit: &'a [u8], start: usize, refusal: &'b mut u64) -> &'a [u8]
+        ensures { λ r. ⌜ Handed (rangeFrom self (now (unit .entry)) start) (now r) (now (refusal .exit)) ⌝ }
+    {
+        if self.is_in_bounds(start) {
+            let end = end_within(self, unit.len());
+            return part(unit, start, end, refusal);
+        }
+        none(unit, refusal)
+    }
+
+    // The entries up to `end`.
+    pub fn range_to<'a, 'b>(self, unit: &'a [u8], end: usize, refusal: &'b mut u64) -> &'a [u8]
+        ensures { λ r. ⌜ Handed (rangeTo self (now (unit .entry)) end) (now r) (now (refusal .exit)) ⌝ }
+    {
+        if self.is_in_bounds(end) {
+            let start = self.size_of_header();
+            return part(unit, start, end, refusal);
+        }
+        none(unit, refusal)
+    }
+}
