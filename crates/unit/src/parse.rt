@@ -58,7 +58,7 @@ fn parse_signature(s: &[u8], at: usize, format: Format, endian: RunTimeEndian) -
     }
 }
 
-// A type unit, in the old section's type or the split one's.
+// A type unit, or a split one.
 fn parse_type(s: &[u8], at: usize, split: bool, format: Format, endian: RunTimeEndian) -> Typed
     ensures { λ r. ⌜ viewTyped r ≡ typeAt (now (s .entry)) at (cond split 6 2) format endian ⌝ }
 {
@@ -73,8 +73,8 @@ fn parse_type(s: &[u8], at: usize, split: bool, format: Format, endian: RunTimeE
     }
 }
 
-// A unit with a dwo_id.
-fn parse_dwo(s: &[u8], at: usize, split: bool, endian: RunTimeEndian, format: Format) -> Typed
+// A skeleton unit, or a split compilation unit.
+fn parse_dwo(s: &[u8], at: usize, split: bool, format: Format, endian: RunTimeEndian) -> Typed
     ensures { λ r. ⌜ viewTyped r ≡ typeAt (now (s .entry)) at (cond split 5 4) format endian ⌝ }
 {
     match read_u64(s, at, endian) {
@@ -95,8 +95,8 @@ fn parse_unit_type(s: &[u8], at: usize, number: u64, format: Format, endian: Run
         1 => Typed::Got(UnitType::Compilation, at),
         2 => parse_type(s, at, false, format, endian),
         3 => Typed::Got(UnitType::Partial, at),
-        4 => parse_dwo(s, at, false, endian, format),
-        5 => parse_dwo(s, at, true, endian, format),
+        4 => parse_dwo(s, at, false, format, endian),
+        5 => parse_dwo(s, at, true, format, endian),
         6 => parse_type(s, at, true, format, endian),
         _ => Typed::Refused(Error::UnknownUnitType),
     }
