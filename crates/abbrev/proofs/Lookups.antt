@@ -7,12 +7,12 @@ use mathlib.Core.Logic.{_⊎_, inl, inr, ⊎-elim}
 use Prim.Native.Nat.{ℕ, zero, suc, _+_, _-_, _*_, _/_, _≤_, _<_}
 use native.Mathlib.Omega.{arith}
 use native.Mathlib.Nat.{suc-add}
-use borrow.Author.Tests.{eq-eqb, ne-eqb, eqb-true, eqb-false, lt-ltb, le-ltb, le-leb}
+use borrow.Author.Tests.{eq-eqb, ne-eqb, eqb-true, eqb-false, lt-ltb, le-ltb, le-leb, leb-true}
 use lib.Dec.{eqb, ltb, leb}
 use lib.ListN.{length, take, drop, getD, replicate, length-append, length-replicate}
-use lib.Seq.{getD-take, take-at, drop-at}
+use lib.Seq.{getD-take, getD-drop, take-at, drop-at}
 use Rattle.reader.specs.Answer.{Answer, got, refused, andThen, Holds}
-use Rattle.abbrev.specs.Lookup.{column, indexOf, specsFrom, allFair, Found, rowAt, keepsSizes, judgedRow, rowFound, lookup, declarationOf, declaredIn}
+use Rattle.abbrev.specs.Lookup.{column, indexOf, specAt, specsFrom, fair, allFair, specificationAt, attributeAt, Found, rowAt, keepsSizes, judgedRow, rowFound, lookup, declarationOf, declaredIn}
 use Rattle.abbrev.specs.Rows.{specWords, allSpecs, Row, rowWords, rowsWords, rowsFrom, Laid, Left}
 use Rattle.abbrev.specs.Table.{Specification, Declaration, Limit, abbreviationsAt}
 use Rattle.abbrev.proofs.Attributes.{words-append}
@@ -89,8 +89,8 @@ missed c [] w h e = e
 missed c (r ∷ rs) w h e = rw (ne-eqb (r .declaration .code) c (h r (inl refl))) (ap suc (missed c rs w (λ y i. h y (inr i)) e))
 
 -- what a row says
-abbrev foundOf : Row → Found
-foundOf r =
+abbrev pub foundRow : Row → Found
+foundRow r =
     record {
       code = r .declaration .code;
       tag = r .declaration .tag;
@@ -111,7 +111,7 @@ record Hit (c : ℕ) (rs : List Row) (w v : List ℕ) : Type 0 where
   in-list : In r rs
   code : r .declaration .code ≡ c
   below : indexOf c (codes rs ++ w) < length rs
-  is : rowAt (rowsWords rs ++ v) (indexOf c (codes rs ++ w)) ≡ foundOf r
+  is : rowAt (rowsWords rs ++ v) (indexOf c (codes rs ++ w)) ≡ foundRow r
 
 hit : (c : ℕ) (rs : List Row) (w v : List ℕ) (y : Row) → In y rs → y .declaration .code ≡ c → Hit c rs w v
 hit c (x ∷ rs) w v y i q = by (eqb (x .declaration .code) c) refl (λ j. hit c rs w v y j q)
@@ -157,7 +157,7 @@ module _ {m k : ℕ} {rows specs : List ℕ} {t : List Declaration} (L : Laid m 
   held-row r i = rw (L .specs-are) (held 0 [] (replicate (k - length (allSpecs t) * 3) 0) t refl r i)
 
   -- a row within 01's sizes is answered
-  judged-row : (most : ℕ) (r : Row) → Proper most (r .declaration) → Held specs r → judgedRow most specs (foundOf r) ≡ got (some (foundOf r))
+  judged-row : (most : ℕ) (r : Row) → Proper most (r .declaration) → Held specs r → judgedRow most specs (foundRow r) ≡ got (some (foundRow r))
   unfolding judgedRow
   judged-row most r p h =
       let d = r .declaration in
@@ -172,7 +172,7 @@ module _ {m k : ℕ} {rows specs : List ℕ} {t : List Declaration} (L : Laid m 
       )
 
   -- what is in the table is found, in the row that holds it
-  pub lookup-row : (most : ℕ) → Sound most t → (r : Row) → In r (rowsFrom 0 t) → lookup most rows specs (r .declaration .code) ≡ got (some (foundOf r))
+  pub lookup-row : (most : ℕ) → Sound most t → (r : Row) → In r (rowsFrom 0 t) → lookup most rows specs (r .declaration .code) ≡ got (some (foundRow r))
   unfolding lookup rowFound zeros
   lookup-row most S r i =
       let c = r .declaration .code in
@@ -180,7 +180,7 @@ module _ {m k : ℕ} {rows specs : List ℕ} {t : List Declaration} (L : Laid m 
       let q : h .r ≡ r = S .one (h .r) r (in-perm (h .r) (L .all) (h .in-list)) i (h .code) in
       let p = S .proper (r .declaration) (in-rows 0 t r i) in
       let j = indexOf c (codes (L .rowChoice) ++ column more zeros) in
-      let a : rowAt rows j ≡ foundOf r = ap (λ l. rowAt l j) (L .rows-are) ∙ h .is ∙ ap foundOf q in
+      let a : rowAt rows j ≡ foundRow r = ap (λ l. rowAt l j) (L .rows-are) ∙ h .is ∙ ap foundRow q in
       let b : j < length rows / 5 = omega (arith, h .below, enough) in
       rw (ne-eqb c 0 (p .code-some), codes-are, lt-ltb j (length rows / 5) b, a) (judged-row most r p (held-row r i))
 
@@ -235,3 +235,45 @@ table-lookup s offset l m k rows specs h = go (abbreviationsAt s offset l (m / 5
         → Holds (λ t. (c : ℕ) → andThen (lookup (l .most) rows specs c) (λ o. got (Option·map (declarationOf specs) o)) ≡ got (declaredIn t c)) r
     go (got t) S L = lookup-exact (l .most) S L
     go (refused n) S L = tt
+
+-- ---- the specifications of a found row, by number
+
+spec-drop : (l : List ℕ) (j k : ℕ) → specAt (drop j l) k ≡ specAt l (j + k)
+spec-drop l j k =
+    let e : j + (k + 1) ≡ j + k + 1 = omega arith in
+    let f : j + (k + 2) ≡ j + k + 2 = omega arith in
+    rw (getD-drop j l k 0, getD-drop j l (k + 1) 0, getD-drop j l (k + 2) 0, e, f)
+
+specs-nth : (n i : ℕ) (l : List ℕ) (d : Specification) → i < n → getD (specsFrom n l) i d ≡ specAt l (i * 3)
+specs-nth zero i l d h = absurd (omega arith)
+specs-nth (suc n) zero l d h = refl
+specs-nth (suc n) (suc i) l d h =
+    let e : 3 + i * 3 ≡ suc i * 3 = omega arith in
+    specs-nth n i (drop 3 l) d (omega arith) ∙ spec-drop l 3 (i * 3) ∙ ap (specAt l) e
+
+both : (a b : Bool) → (a && b) ≡ true → (a ≡ true) × (b ≡ true)
+both true true e = (refl, refl)
+both true false e = let z : _≡_ {A = ℕ} 0 1 = cc in absurd (omega arith)
+both false b e = let z : _≡_ {A = ℕ} 0 1 = cc in absurd (omega arith)
+
+fair-nth : (n i : ℕ) (l : List ℕ) → i < n → allFair (specsFrom n l) ≡ true → fair (specAt l (i * 3)) ≡ true
+fair-nth zero i l h e = absurd (omega arith)
+fair-nth (suc n) zero l h e = both (fair (specAt l 0)) (allFair (specsFrom n (drop 3 l))) e .0
+fair-nth (suc n) (suc i) l h e =
+    let f : 3 + i * 3 ≡ suc i * 3 = omega arith in
+    let g = fair-nth n i (drop 3 l) (omega arith) (both (fair (specAt l 0)) (allFair (specsFrom n (drop 3 l))) e .1) in
+    ap fair (ap (specAt l) (sym f) ∙ sym (spec-drop l 3 (i * 3))) ∙ g
+
+-- each of them is there, and is the declaration's
+pub attribute-nth : (most : ℕ) (specs : List ℕ) (f : Found) (i : ℕ) (d : Specification) → keepsSizes most specs f ≡ true → i < f .count
+    → attributeAt specs f i ≡ got (some (getD (declarationOf specs f .specifications) i d))
+unfolding attributeAt specificationAt
+attribute-nth most specs f i d k h =
+    let l = drop (f .first * 3) specs in
+    let b = both (ltb 0 (f .tag) && leb (f .tag) 65535 && leb (f .children) 1 && leb (f .count) most && leb (f .first + f .count) (length specs / 3)) (allFair (specsFrom (f .count) l)) k in
+    let r : f .first + f .count ≤ length specs / 3 = leb-true _ _ (both (ltb 0 (f .tag) && leb (f .tag) 65535 && leb (f .children) 1 && leb (f .count) most) (leb (f .first + f .count) (length specs / 3)) (b .0) .1) in
+    let e : f .first * 3 + i * 3 ≡ (f .first + i) * 3 = omega arith in
+    let s : specAt l (i * 3) ≡ specAt specs ((f .first + i) * 3) = spec-drop specs (f .first * 3) (i * 3) ∙ ap (specAt specs) e in
+    let g : fair (specAt specs ((f .first + i) * 3)) ≡ true = ap fair (sym s) ∙ fair-nth (f .count) i l h (b .1) in
+    let n : getD (specsFrom (f .count) l) i d ≡ specAt specs ((f .first + i) * 3) = specs-nth (f .count) i l d h ∙ s in
+    rw (lt-ltb i (f .count) h, lt-ltb (f .first + i) (length specs / 3) (omega arith), g, n)

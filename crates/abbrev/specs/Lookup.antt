@@ -20,10 +20,14 @@ abbrev pub indexOf : ℕ → List ℕ → ℕ
 indexOf x [] = 0
 indexOf x (y ∷ ys) = cond (eqb y x) 0 (suc (indexOf x ys))
 
--- n specifications from a word on
+-- the specification that starts at a word
+abbrev pub specAt : List ℕ → ℕ → Specification
+specAt l k = record { name = getD l k 0; form = getD l (k + 1) 0; constant = getD l (k + 2) 0 }
+
+-- the first n specifications
 abbrev pub specsFrom : ℕ → List ℕ → List Specification
 specsFrom zero l = []
-specsFrom (suc n) l = record { name = getD l 0 0; form = getD l 1 0; constant = getD l 2 0 } ∷ specsFrom n (drop 3 l)
+specsFrom (suc n) l = specAt l 0 ∷ specsFrom n (drop 3 l)
 
 -- 01's sizes: names and forms up to 65,535
 abbrev pub fair : Specification → Bool
@@ -79,11 +83,7 @@ declarationOf specs f =
 -- a specification row by its number, or none past the whole rows; 1 where it breaks 01's sizes
 unfoldable pub specificationAt : List ℕ → ℕ → Answer (Option Specification)
 specificationAt specs i =
-    cond (ltb i (length specs / 3))
-    (cond (leb (getD specs (i * 3) 0) 65535 && leb (getD specs (i * 3 + 1) 0) 65535)
-    (got (some (record { name = getD specs (i * 3) 0; form = getD specs (i * 3 + 1) 0; constant = getD specs (i * 3 + 2) 0 })))
-    (refused 1))
-    (got none)
+    cond (ltb i (length specs / 3)) (cond (fair (specAt specs (i * 3))) (got (some (specAt specs (i * 3)))) (refused 1)) (got none)
 
 -- the i-th specification of a found row
 unfoldable pub attributeAt : List ℕ → Found → ℕ → Answer (Option Specification)

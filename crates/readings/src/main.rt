@@ -32,9 +32,15 @@ fn digit(n: u64) -> u8 {
     (n % 10 + 48) as u8
 }
 
+// A number below 100, on a line.
 fn say(n: u64) {
-    let text = [digit(n / 10), digit(n), 10];
-    io::write_all(STDOUT_FILENO, &text);
+    if n < 10 {
+        let text = [digit(n), 10];
+        io::write_all(STDOUT_FILENO, &text);
+    } else {
+        let text = [digit(n / 10), digit(n), 10];
+        io::write_all(STDOUT_FILENO, &text);
+    }
 }
 
 fn refused(e: Error) {
@@ -66,15 +72,20 @@ fn first(section: &[u8]) {
     }
 }
 
-// Whether reading may start at an offset of the unit at 0: 0, or the refusal.
+// How many bytes reading has before it from an offset of the unit at 0 on, or the refusal.
 fn start(section: &[u8], offset: usize) {
     match DebugInfo::header_from_offset(section, 0, RunTimeEndian::Little) {
         Header::Got(header, _) => {
             let mut refusal: u64 = 0;
             let unit = header.bytes(section, &mut refusal);
             let part = header.range_from(unit, offset, &mut refusal);
-            say(refusal);
-            say(part.len() as u64);
+            if refusal == 0 {
+                io::write_all(STDOUT_FILENO, b"bytes ");
+                say(part.len() as u64);
+            } else {
+                io::write_all(STDOUT_FILENO, b"refused ");
+                say(refusal);
+            }
         }
         Header::Refused(e) => refused(e),
     }

@@ -4,7 +4,7 @@ use mathlib.Core.Path.{_≡_, refl, sym, ap, _∙_}
 use mathlib.Core.List.{List}
 use Prim.Native.Nat.{ℕ, _+_, _^_, _≤_, _<_}
 use native.Mathlib.Omega.{arith}
-use borrow.Author.Tests.{ne-eqb}
+use borrow.Author.Tests.{ne-eqb, eqb-true}
 use lib.Dec.{eqb, leb}
 use lib.ListN.{length, take}
 use lib.Seq.{length-take-le}
@@ -18,7 +18,7 @@ use Rattle.reader.specs.declared.endianity.RunTimeEndian.the-variants.{Little}
 use Rattle.reader.proofs.Answers.{holds-then, cond-by}
 use Rattle.reader.proofs.FieldLaws.{initial-in, skip-in}
 use Rattle.reader.proofs.WordLaws.{WordIn, word-in}
-use Rattle.unit.specs.Header.{typeSize, sizeOfHeader, unitEnd}
+use Rattle.unit.specs.Header.{typeNumber, typeSize, sizeOfHeader, unitEnd}
 use Rattle.unit.specs.Parse.{Section, Common, signatureAt, typeAt, olderAt, typedAt, newerAt, commonAt, restAt, bodyAt, headerAt}
 use Rattle.unit.specs.declared.header.UnitHeader.{UnitHeader}
 use Rattle.unit.specs.declared.header.UnitType.{UnitType}
@@ -137,6 +137,24 @@ type-in s at n f e =
     dwo make z =
         holds-then (WordIn s at 8) (TypeIn s at (wordSize f)) (wordAt s at 8 e) _ (word-in s at 8 e)
         (λ r h. record { next = rw (z (r .value)) (h .next); within = λ _. omega (arith, h .next, h .there) })
+
+-- a type is the one that its number says
+pub type-numbered : (s : List ℕ) (at n : ℕ) (f : Format) (e : RunTimeEndian) → Holds (λ t. typeNumber (t .value) ≡ n) (typeAt s at n f e)
+unfolding typeAt
+type-numbered s at n f e =
+    cond-by P (eqb n 1) _ _ (λ h. sym (eqb-true n 1 h))
+    (λ _. cond-by P (eqb n 2) _ _ (λ h. then (signatureAt s at f e) (λ r. «Type» (r .value .signature) (r .value .offset)) (λ r. sym (eqb-true n 2 h)))
+    (λ _. cond-by P (eqb n 3) _ _ (λ h. sym (eqb-true n 3 h))
+    (λ _. cond-by P (eqb n 4) _ _ (λ h. then (wordAt s at 8 e) (λ r. Skeleton (r .value)) (λ r. sym (eqb-true n 4 h)))
+    (λ _. cond-by P (eqb n 5) _ _ (λ h. then (wordAt s at 8 e) (λ r. SplitCompilation (r .value)) (λ r. sym (eqb-true n 5 h)))
+    (λ _. cond-by P (eqb n 6) _ _ (λ h. then (signatureAt s at f e) (λ r. SplitType (r .value .signature) (r .value .offset)) (λ r. sym (eqb-true n 6 h))) (λ _. tt))))))
+  where
+    P : Answer (Read UnitType) → Type 0
+    P r = Holds (λ t. typeNumber (t .value) ≡ n) r
+
+    then : {A : Type 0} (r : Answer (Read A)) (make : Read A → UnitType) → ((x : Read A) → typeNumber (make x) ≡ n) → P (andThen r (λ x. gives (make x) (x .next)))
+    then (got x) make h = h x
+    then (refused k) make h = tt
 
 -- ---- a whole header
 
