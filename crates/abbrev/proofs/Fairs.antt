@@ -55,6 +55,10 @@ module _ {l : List ℕ} {first count i : ℕ} (t : Sifted l first count i) where
           }
 
 -- a byte of 0 or 1 as a bool, and back
+pub bit-most : (b : Bool) → cond b 1 0 ≤ 1
+bit-most true = omega arith
+bit-most false = omega arith
+
 pub bit : (n : ℕ) → n ≤ 1 → cond (eqb n 1) 1 0 ≡ n
 bit n h = ⊎-elim
     (λ l. let e : n ≡ 0 = omega arith in rw e)

@@ -12,7 +12,7 @@ use lib.Dec.{eqb, ltb, leb}
 use lib.ListN.{length, take, drop, getD, replicate, length-append, length-replicate}
 use lib.Seq.{getD-take, getD-drop, take-at, drop-at}
 use Rattle.reader.specs.Answer.{Answer, got, refused, andThen, Holds}
-use Rattle.abbrev.specs.Lookup.{column, indexOf, specAt, specsFrom, fair, allFair, specificationAt, attributeAt, Found, rowAt, keepsSizes, judgedRow, rowFound, lookup, declarationOf, declaredIn}
+use Rattle.abbrev.specs.Lookup.{column, indexOf, specAt, specsFrom, fair, allFair, specificationAt, attributeAt, Found, rowAt, specsKept, keepsSizes, judgedRow, rowFound, lookup, declarationOf, declaredIn}
 use Rattle.abbrev.specs.Rows.{specWords, allSpecs, Row, rowWords, rowsWords, rowsFrom, Laid, Left}
 use Rattle.abbrev.specs.Table.{Specification, Declaration, Limit, abbreviationsAt}
 use Rattle.abbrev.proofs.Attributes.{words-append}
@@ -238,25 +238,29 @@ table-lookup s offset l m k rows specs h = go (abbreviationsAt s offset l (m / 5
 
 -- ---- the specifications of a found row, by number
 
-spec-drop : (l : List ℕ) (j k : ℕ) → specAt (drop j l) k ≡ specAt l (j + k)
+pub spec-drop : (l : List ℕ) (j k : ℕ) → specAt (drop j l) k ≡ specAt l (j + k)
 spec-drop l j k =
     let e : j + (k + 1) ≡ j + k + 1 = omega arith in
     let f : j + (k + 2) ≡ j + k + 2 = omega arith in
     rw (getD-drop j l k 0, getD-drop j l (k + 1) 0, getD-drop j l (k + 2) 0, e, f)
 
-specs-nth : (n i : ℕ) (l : List ℕ) (d : Specification) → i < n → getD (specsFrom n l) i d ≡ specAt l (i * 3)
+pub length-specs : (n : ℕ) (l : List ℕ) → length (specsFrom n l) ≡ n
+length-specs zero l = refl
+length-specs (suc n) l = ap suc (length-specs n (drop 3 l))
+
+pub specs-nth : (n i : ℕ) (l : List ℕ) (d : Specification) → i < n → getD (specsFrom n l) i d ≡ specAt l (i * 3)
 specs-nth zero i l d h = absurd (omega arith)
 specs-nth (suc n) zero l d h = refl
 specs-nth (suc n) (suc i) l d h =
     let e : 3 + i * 3 ≡ suc i * 3 = omega arith in
     specs-nth n i (drop 3 l) d (omega arith) ∙ spec-drop l 3 (i * 3) ∙ ap (specAt l) e
 
-both : (a b : Bool) → (a && b) ≡ true → (a ≡ true) × (b ≡ true)
+pub both : (a b : Bool) → (a && b) ≡ true → (a ≡ true) × (b ≡ true)
 both true true e = (refl, refl)
 both true false e = let z : _≡_ {A = ℕ} 0 1 = cc in absurd (omega arith)
 both false b e = let z : _≡_ {A = ℕ} 0 1 = cc in absurd (omega arith)
 
-fair-nth : (n i : ℕ) (l : List ℕ) → i < n → allFair (specsFrom n l) ≡ true → fair (specAt l (i * 3)) ≡ true
+pub fair-nth : (n i : ℕ) (l : List ℕ) → i < n → allFair (specsFrom n l) ≡ true → fair (specAt l (i * 3)) ≡ true
 fair-nth zero i l h e = absurd (omega arith)
 fair-nth (suc n) zero l h e = both (fair (specAt l 0)) (allFair (specsFrom n (drop 3 l))) e .0
 fair-nth (suc n) (suc i) l h e =
@@ -264,16 +268,28 @@ fair-nth (suc n) (suc i) l h e =
     let g = fair-nth n i (drop 3 l) (omega arith) (both (fair (specAt l 0)) (allFair (specsFrom n (drop 3 l))) e .1) in
     ap fair (ap (specAt l) (sym f) ∙ sym (spec-drop l 3 (i * 3))) ∙ g
 
+-- what a row that keeps the sizes has
+pub record Kept (most : ℕ) (specs : List ℕ) (f : Found) : Type 0 where
+  pub most-is : f .count ≤ most
+  pub inside : f .first + f .count ≤ length specs / 3
+  pub fairs : allFair (declarationOf specs f .specifications) ≡ true
+
+pub kept : (most : ℕ) (specs : List ℕ) (f : Found) → keepsSizes most specs f ≡ true → Kept most specs f
+kept most specs f k =
+    let a = both (ltb 0 (f .tag) && leb (f .tag) 65535 && leb (f .children) 1) (specsKept most specs (f .first) (f .count)) k .1 in
+    let b = both (leb (f .count) most && leb (f .first + f .count) (length specs / 3)) (allFair (declarationOf specs f .specifications)) a in
+    let d = both (leb (f .count) most) (leb (f .first + f .count) (length specs / 3)) (b .0) in
+    record { most-is = leb-true _ _ (d .0); inside = leb-true _ _ (d .1); fairs = b .1 }
+
 -- each of them is there, and is the declaration's
 pub attribute-nth : (most : ℕ) (specs : List ℕ) (f : Found) (i : ℕ) (d : Specification) → keepsSizes most specs f ≡ true → i < f .count
     → attributeAt specs f i ≡ got (some (getD (declarationOf specs f .specifications) i d))
 unfolding attributeAt specificationAt
 attribute-nth most specs f i d k h =
     let l = drop (f .first * 3) specs in
-    let b = both (ltb 0 (f .tag) && leb (f .tag) 65535 && leb (f .children) 1 && leb (f .count) most && leb (f .first + f .count) (length specs / 3)) (allFair (specsFrom (f .count) l)) k in
-    let r : f .first + f .count ≤ length specs / 3 = leb-true _ _ (both (ltb 0 (f .tag) && leb (f .tag) 65535 && leb (f .children) 1 && leb (f .count) most) (leb (f .first + f .count) (length specs / 3)) (b .0) .1) in
+    let b = kept most specs f k in
     let e : f .first * 3 + i * 3 ≡ (f .first + i) * 3 = omega arith in
     let s : specAt l (i * 3) ≡ specAt specs ((f .first + i) * 3) = spec-drop specs (f .first * 3) (i * 3) ∙ ap (specAt specs) e in
-    let g : fair (specAt specs ((f .first + i) * 3)) ≡ true = ap fair (sym s) ∙ fair-nth (f .count) i l h (b .1) in
+    let g : fair (specAt specs ((f .first + i) * 3)) ≡ true = ap fair (sym s) ∙ fair-nth (f .count) i l h (b .fairs) in
     let n : getD (specsFrom (f .count) l) i d ≡ specAt specs ((f .first + i) * 3) = specs-nth (f .count) i l d h ∙ s in
-    rw (lt-ltb i (f .count) h, lt-ltb (f .first + i) (length specs / 3) (omega arith), g, n)
+    rw (lt-ltb i (f .count) h, lt-ltb (f .first + i) (length specs / 3) (omega (arith, b .inside)), g, n)

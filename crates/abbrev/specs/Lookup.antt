@@ -56,12 +56,15 @@ rowAt rows i =
       count = getD rows (i * 5 + 4) 0;
     }
 
+-- 01's sizes of so many specifications from a row on: not more than the most, inside their slice, with fair names and forms
+abbrev pub specsKept : ℕ → List ℕ → ℕ → ℕ → Bool
+specsKept most specs first count =
+    leb count most && leb (first + count) (length specs / 3) && allFair (specsFrom count (drop (first * 3) specs))
+
 -- 01's sizes of a row found for a code, with at most so many specifications
 abbrev pub keepsSizes : ℕ → List ℕ → Found → Bool
 keepsSizes most specs f =
-    ltb 0 (f .tag) && leb (f .tag) 65535 && leb (f .children) 1 && leb (f .count) most
-    && leb (f .first + f .count) (length specs / 3)
-    && allFair (specsFrom (f .count) (drop (f .first * 3) specs))
+    ltb 0 (f .tag) && leb (f .tag) 65535 && leb (f .children) 1 && specsKept most specs (f .first) (f .count)
 
 unfoldable pub judgedRow : ℕ → List ℕ → Found → Answer (Option Found)
 judgedRow most specs f = cond (keepsSizes most specs f) (got (some f)) (refused 1)

@@ -4,7 +4,7 @@ ghost use mathlib.Core.Path.{_≡_};
 ghost use Prim.Native.Nat.{_+_, _*_, _/_, _≤_};
 ghost use lib.Dec.{eqb};
 ghost use lib.ListN.{length, drop};
-ghost use Rattle.abbrev.specs.Lookup.{specsFrom, allFair, judgedRow, rowFound, lookup, specificationAt, attributeAt, implicitConstOf};
+ghost use Rattle.abbrev.specs.Lookup.{specsFrom, allFair, specsKept, keepsSizes, judgedRow, rowFound, lookup, specificationAt, attributeAt, implicitConstOf};
 ghost use Rattle.abbrev.specs.Table.{entryLimit};
 ghost use Rattle.abbrev.specs.Views.{viewLookup, viewSpecified, viewConstant, foundOf, specificationOf};
 use super::rows::find;
@@ -64,6 +64,23 @@ fn all_fair(specs: &[u64], first: usize, count: usize) -> bool
     true
 }
 
+// Whether `count` specifications from `first` on keep document 01's sizes.
+fn within(specs: &[u64], first: u64, count: u64) -> bool
+    ensures { λ r. ⌜ r ≡ specsKept (entryLimit .most) (now (specs .entry)) first count ⌝ }
+{
+    if (MAX_ATTRIBUTES as u64) < count {
+        return false;
+    }
+    let whole = (specs.len() / 3) as u64;
+    if whole < count {
+        return false;
+    }
+    if whole - count < first {
+        return false;
+    }
+    all_fair(specs, first as usize, count as usize)
+}
+
 // A row found for a code, held to document 01's sizes.
 fn judge_row(specs: &[u64], code: u64, tag: u64, children: u64, first: u64, count: u64) -> Lookup
     ensures { λ r. ⌜ viewLookup r ≡ judgedRow (entryLimit .most) (now (specs .entry)) (record { code = code; tag = tag; children = children; first = first; count = count }) ⌝ }
@@ -77,17 +94,7 @@ fn judge_row(specs: &[u64], code: u64, tag: u64, children: u64, first: u64, coun
     if 1 < children {
         return Lookup::Refused(Error::SizeLimit);
     }
-    if (MAX_ATTRIBUTES as u64) < count {
-        return Lookup::Refused(Error::SizeLimit);
-    }
-    let whole = (specs.len() / 3) as u64;
-    if whole < count {
-        return Lookup::Refused(Error::SizeLimit);
-    }
-    if whole - count < first {
-        return Lookup::Refused(Error::SizeLimit);
-    }
-    if all_fair(specs, first as usize, count as usize) {
+    if within(specs, first, count) {
         return Lookup::Found(Abbreviation {
             code,
             tag: tag as u16,
@@ -170,6 +177,19 @@ impl Abbreviation {
         ensures { λ r. ⌜ r ≡ eqb (foundOf self .children) 1 ⌝ }
     {
         self.has_children
+    }
+
+    // Whether a row that anybody may have made keeps document 01's sizes.
+    pub fn keeps_sizes(self, specs: &[u64]) -> bool
+        ensures { λ r. ⌜ r ≡ keepsSizes (entryLimit .most) (now (specs .entry)) (foundOf self) ⌝ }
+    {
+        let tag = self.tag;
+        if tag == 0 {
+            return false;
+        }
+        let first = self.first as u64;
+        let count = self.count as u64;
+        within(specs, first, count)
     }
 
     // gimli's `attributes`, by number.

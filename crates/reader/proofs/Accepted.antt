@@ -4,11 +4,11 @@ use mathlib.Core.Path.{_≡_, refl, sym, ap, _∙_}
 use mathlib.Core.List.{List, [], _∷_}
 use Prim.Native.Nat.{ℕ, zero, suc, _+_, _-_, _*_, _/_, _%_, _^_, _≤_, _<_}
 use native.Mathlib.Omega.{arith}
-use borrow.Author.Tests.{ltb-true}
+use borrow.Author.Tests.{ltb-true, lt-ltb}
 use lib.Dec.{ltb}
 use lib.IntN.{ℤ}
-use lib.ListN.{length, take, drop, getD, length-take, length-drop}
-use lib.Seq.{getD-take}
+use lib.ListN.{length, take, drop, getD, length-take, length-drop, drop-of-length-le}
+use lib.Seq.{getD-take, take-nil}
 use lib.Signed.{mag}
 use Rattle.reader.specs.Answer.{Answer, got, refused, andThen, orElse, Read, gives, placed, Holds}
 use Rattle.reader.specs.Leb128.{through, mostBytes, extent, leb128, unsigned, fitsUnsigned, signed, fitsSigned, ulebAt, slebAt, pastAt}
@@ -133,3 +133,8 @@ past-in s at m = go (through m (drop at s)) (through-in m (drop at s))
     go : (r : Answer ℕ) → Holds (Through m (drop at s)) r → Holds (λ p. (at < p) × (p ≤ length s)) (andThen r (λ k. got (at + k)))
     go (got k) t = let l = length-drop at s in (omega (arith, t .some), omega (arith, t .some, t .within))
     go (refused n) t = tt
+
+-- where no byte is left
+pub uleb-none : (s : List ℕ) (at w : ℕ) → 0 < mostBytes w → length s ≤ at → ulebAt s at w ≡ refused 2
+unfolding ulebAt leb128 extent through
+uleb-none s at w h l = rw (drop-of-length-le s {i = at} l, take-nil (mostBytes w), lt-ltb 0 (mostBytes w) h)

@@ -8,7 +8,7 @@ use native.Mathlib.Nat.{zero-add, add-mul}
 use borrow.Author.Tests.{lt-ltb, le-ltb, ltb-true, ltb-false, leb-false}
 use lib.Dec.{T, ltb}
 use lib.IntN.{ℤ, pos, negsuc, _+ℤ_, _-ℤ_, _*ℤ_, natAbs}
-use lib.Pow.{pow-add}
+use lib.Pow.{pow-add, pow-mono}
 use lib.Signed.{mag, leZ, nonNeg}
 use mir.Syntax.{w64}
 use mir.Val.{toZ}
@@ -87,3 +87,39 @@ below-zero (pos n) t = absurd (omega (arith, leb-false 0 n t))
 below-zero (negsuc n) t =
     let e : suc n - 1 ≡ n = omega arith in
     (rw (le-ltb (suc n) 1 (omega arith), e), refl)
+
+-- there and back
+pub word-twos : (n v : ℕ) → v < 2 ^ n → word n (twos n v) ≡ v
+unfolding word
+word-twos n v h = ⊎-elim low high (lt-or-le v (2 ^ (n - 1)))
+  where
+    low : v < 2 ^ (n - 1) → word n (twos n v) ≡ v
+    low l = rw (twos-low n v l)
+
+    high : 2 ^ (n - 1) ≤ v → word n (twos n v) ≡ v
+    high l = rw (twos-high n v l h) (omega arith)
+
+pub twos-word : (n : ℕ) (z : ℤ) → 0 < n → mag z < 2 ^ (n - 1) → twos n (word n z) ≡ z
+unfolding word
+twos-word n (pos k) l h = twos-low n k h
+twos-word n (negsuc k) l h =
+    let e : suc (n - 1) ≡ n = omega arith in
+    let d : 2 ^ n ≡ 2 ^ suc (n - 1) = ap (λ (m : ℕ). 2 ^ m) (sym e) in
+    let b : 2 ^ n - 1 - (2 ^ n - 1 - k) ≡ k = omega arith in
+    twos-high n (2 ^ n - 1 - k) (omega arith) (omega arith) ∙ ap negsuc b
+
+-- a number of n bits in more bits
+pub extend-low : (n m v : ℕ) → 0 < n → n ≤ m → v < 2 ^ (n - 1) → twos m v ≡ twos n v
+extend-low n m v l k h =
+    let p = pow-mono {i = n - 1} {j = m - 1} (omega arith) in
+    twos-low m v (omega arith) ∙ sym (twos-low n v h)
+
+pub extend-high : (n m v : ℕ) → 0 < n → n ≤ m → 2 ^ (n - 1) ≤ v → v < 2 ^ n → twos m (v + (2 ^ m - 2 ^ n)) ≡ twos n v
+extend-high n m v l k h b =
+    let e : suc (n - 1) ≡ n = omega arith in
+    let f : suc (m - 1) ≡ m = omega arith in
+    let d : 2 ^ n ≡ 2 ^ suc (n - 1) = ap (λ (j : ℕ). 2 ^ j) (sym e) in
+    let g : 2 ^ m ≡ 2 ^ suc (m - 1) = ap (λ (j : ℕ). 2 ^ j) (sym f) in
+    let p = pow-mono {i = n - 1} {j = m - 1} (omega arith) in
+    let q : 2 ^ m - 1 - (v + (2 ^ m - 2 ^ n)) ≡ 2 ^ n - 1 - v = omega arith in
+    twos-high m (v + (2 ^ m - 2 ^ n)) (omega arith) (omega arith) ∙ ap negsuc q ∙ sym (twos-high n v h b)

@@ -34,6 +34,10 @@ gives v p = got (record { value = v; next = p })
 abbrev pub placed : {A : Type 0} → ℕ → Answer (Read A) → Answer (Read A)
 placed at r = andThen r (λ x. gives (x .value) (at + x .next))
 
+-- where a value ends
+abbrev pub endOf : {A : Type 0} → Answer (Read A) → Answer ℕ
+endOf r = andThen r (λ v. got (v .next))
+
 -- what holds of the value, where there is one
 abbrev pub Holds : {A : Type 0} → (A → Type 0) → Answer A → Type 0
 Holds P (got a) = P a

@@ -158,9 +158,9 @@ pub fn read_u128(bytes: &[u8], at: usize, endian: RunTimeEndian) -> WideWord
             WideWord::Got(low, high, next)
         }
         RunTimeEndian::Big => {
-            let high = word8(bytes, at, RunTimeEndian::Big);
-            let low = word8(bytes, middle, RunTimeEndian::Big);
-            WideWord::Got(low, high, next)
+            let first = word8(bytes, at, RunTimeEndian::Big);
+            let second = word8(bytes, middle, RunTimeEndian::Big);
+            WideWord::Got(second, first, next)
         }
     }
 }

@@ -1,9 +1,15 @@
 // The readings of document 01 that are run: what each prints is held to the file `stdout`.
 
 ghost use Prim.Native.Nat.{_≤_};
+use abbrev::lookup::Abbreviation;
 use abbrev::table::Abbreviations;
 use abbrev::table::DebugAbbrev;
+use attribute::parse::read_attributes;
+use attribute::skip::skip_attributes;
 use libc::STDOUT_FILENO;
+use reader::answer::Place;
+use reader::common::Encoding;
+use reader::common::Format;
 use reader::endianity::RunTimeEndian;
 use reader::error::Error;
 use unit::parse::Header;
@@ -112,6 +118,49 @@ fn starts() {
     start(unit, 19);
 }
 
+fn end(place: Place) {
+    match place {
+        Place::At(next) => {
+            io::write_all(STDOUT_FILENO, b"byte ");
+            say(next as u64);
+        }
+        Place::Refused(e) => refused(e),
+    }
+}
+
+// Where values end that are read and that are skipped, addresses having three bytes.
+fn both(bytes: &[u8], specs: &[u64]) {
+    let encoding = Encoding {
+        address_size: 3,
+        format: Format::Dwarf32,
+        version: 4,
+    };
+    let row = Abbreviation {
+        code: 1,
+        tag: 0x11,
+        has_children: false,
+        first: 0,
+        count: specs.len() / 3,
+    };
+    let little = RunTimeEndian::Little;
+    let read = read_attributes(bytes, 0, 0, encoding, little, row, specs);
+    let last = read.end;
+    io::write_all(STDOUT_FILENO, b"reading ");
+    end(last);
+    io::write_all(STDOUT_FILENO, b"skipping ");
+    end(skip_attributes(bytes, 0, 0, encoding, little, row, specs));
+}
+
+fn values() {
+    io::write_all(STDOUT_FILENO, b"form 16, byte 21:\n");
+    both(b"\x21", &[3, 0x16, 0]);
+    io::write_all(STDOUT_FILENO, b"width 3, form 01, three bytes:\n");
+    both(b"\x01\x02\x03", &[3, 1, 0]);
+    io::write_all(STDOUT_FILENO, b"block of 2^64 - 1 bytes, form 0b:\n");
+    let block = b"\xff\xff\xff\xff\xff\xff\xff\xff\xff\x01\x00";
+    both(block, &[3, 9, 0, 3, 0x0b, 0]);
+}
+
 fn main() {
     io::write_all(STDOUT_FILENO, b"64 pairs: ");
     show(pairs(64));
@@ -119,4 +168,5 @@ fn main() {
     show(pairs(65));
     headers();
     starts();
+    values();
 }

@@ -1,0 +1,5 @@
+-- Laws that several proofs cite.
+pub mod FormLaws
+pub mod ListLaws
+pub mod ReadLaws
+pub mod ValueLaws
