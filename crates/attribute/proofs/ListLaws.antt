@@ -13,22 +13,22 @@ use Rattle.reader.specs.Answer.{Answer, got, refused, andThen, Read, gives, end
 use Rattle.reader.specs.Fields.{skipAt}
 use Rattle.reader.specs.declared.common.Encoding.{Encoding}
 use Rattle.reader.specs.declared.endianity.RunTimeEndian.{RunTimeEndian}
-use Rattle.reader.proofs.Answers.{then-then, then-same, then-got, cond-by, holds-map}
-use Rattle.reader.proofs.FieldLaws.{skip-skip, skip-short, skip-there}
+use Rattle.reader.proofs.Answers.{then-then, then-got, holds-map}
+use Rattle.reader.proofs.FieldLaws.{skip-there}
 use Rattle.abbrev.specs.Lookup.{Found, specAt, specsFrom, fair, keepsSizes, declarationOf}
 use Rattle.abbrev.specs.Table.{Specification}
 use Rattle.abbrev.proofs.Lookups.{length-specs, specs-nth, spec-drop, fair-nth, kept}
-use Rattle.attribute.specs.Attributes.{keepsPlace, readAttributes, skipAttributes, filler, pad, Stored, stored}
+use Rattle.attribute.specs.Attributes.{keepsPlace, readAttributes, skipAttributes, filler, pad}
 use Rattle.attribute.specs.Read.{formAt, attributeAt, attributesAt}
 use Rattle.attribute.specs.Skip.{pastValue, pastValues}
 use Rattle.attribute.specs.Steps.{Within, Listed}
 use Rattle.attribute.specs.Value.{Attribute, valueUnder}
-use Rattle.attribute.specs.Views.{viewValue, viewAttribute}
+use Rattle.attribute.specs.Views.{viewAttribute}
 use Rattle.attribute.specs.declared.value.Attribute as declared-attribute
 use Rattle.attribute.specs.declared.value.Value.{Value}
 use Rattle.attribute.specs.declared.value.AttributeValue.the-variants.{Flag}
 use Rattle.attribute.proofs.FormLaws.{both}
-use Rattle.attribute.proofs.ReadLaws.{Onward, Past, form-past, attribute-past, attributes-past, value-onward}
+use Rattle.attribute.proofs.ReadLaws.{Onward, Past, form-past, attributes-past}
 
 -- the specifications from the i-th on
 pub next-spec : (count : ℕ) (l : List ℕ) (i : ℕ) → i < count → drop i (specsFrom count l) ≡ specAt l (i * 3) ∷ drop (i + 1) (specsFrom count l)

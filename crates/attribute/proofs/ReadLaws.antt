@@ -5,16 +5,16 @@ use mathlib.Core.List.{List, [], _∷_}
 use mathlib.Core.Option.{none, some}
 use Prim.Native.Nat.{ℕ, zero, suc, _+_, _-_, _*_, _^_, _≤_, _<_}
 use native.Mathlib.Omega.{arith}
-use borrow.Author.Tests.{ne-eqb, eq-eqb}
+use borrow.Author.Tests.{ne-eqb}
 use lib.Dec.{eqb}
 use lib.IntN.{ℤ}
 use lib.ListN.{length}
 use lib.Pow.{pow-mono}
 use Rattle.reader.specs.Answer.{Answer, got, refused, andThen, Read, gives, endOf, Holds}
-use Rattle.reader.specs.Fields.{Span, isAddressSize, offsetAt, addressAt, nullTerminatedAt, skipAt, wordSize}
+use Rattle.reader.specs.Fields.{isAddressSize, offsetAt, addressAt, nullTerminatedAt, skipAt, wordSize}
 use Rattle.reader.specs.Leb128.{ulebAt, slebAt, pastAt}
 use Rattle.reader.specs.Twos.{word}
-use Rattle.reader.specs.Words.{wordAt, halvesAt, Halves}
+use Rattle.reader.specs.Words.{wordAt, halvesAt}
 use Rattle.reader.specs.declared.common.Encoding.{Encoding}
 use Rattle.reader.specs.declared.endianity.RunTimeEndian.{RunTimeEndian}
 use Rattle.reader.proofs.Accepted.{Ends, uleb-ends, sleb-ends, uleb-none, past-in}
@@ -25,7 +25,7 @@ use Rattle.abbrev.specs.Table.{Specification}
 use Rattle.attribute.specs.Forms.{row, caseOf, indirect}
 use Rattle.attribute.specs.Read.{Numbers, numbered, wideAt, signedAt, refAddrAt, blockAfter, stringAt, constantOf, rawAt, resolve, finalForm, formAt, attributeAt, attributesAt}
 use Rattle.attribute.specs.Skip.{refAddrSize, layoutSize, attributeSize, pastBlock, pastLayout, pastValue, pastValues}
-use Rattle.attribute.specs.Steps.{Fits, widthBy, isWide, passedAddress, passedConstant}
+use Rattle.attribute.specs.Steps.{Fits, widthBy, passedAddress, passedConstant}
 use Rattle.attribute.specs.declared.form.Layout.{Layout}
 use Rattle.attribute.specs.declared.form.Layout.the-variants as L
 use Rattle.attribute.specs.declared.form.Kind.{Kind}

@@ -1,11 +1,11 @@
 -- The numbers of a value determine it.
-use mathlib.Core.Bool.{Bool, true, false, not}
+use mathlib.Core.Bool.{true, false, not}
 use mathlib.Core.Path.{_≡_, refl, sym, ap, _∙_}
 use Prim.Native.Nat.{ℕ, _^_, _<_}
 use native.Mathlib.Omega.{arith}
 use lib.Dec.{eqb}
 use lib.Signed.{mag}
-use Rattle.reader.specs.Twos.{twos, word}
+use Rattle.reader.specs.Twos.{twos}
 use Rattle.reader.proofs.Signs.{twos-word}
 use Rattle.attribute.specs.Views.{viewValue}
 use Rattle.attribute.specs.declared.form.Kind.{Kind}

@@ -1,10 +1,10 @@
 -- Reading values.
-use mathlib.Core.Bool.{Bool, cond, _&&_}
+use mathlib.Core.Bool.{cond}
 use mathlib.Core.List.{List, [], _∷_}
 use Prim.Native.Nat.{ℕ, zero, suc, _+_}
 use lib.Dec.{eqb}
 use lib.ListN.{length}
-use Rattle.reader.specs.Answer.{Answer, got, refused, andThen, Read, gives}
+use Rattle.reader.specs.Answer.{Answer, refused, andThen, Read, gives}
 use Rattle.reader.specs.Fields.{offsetAt, addressAt, nullTerminatedAt, skipAt}
 use Rattle.reader.specs.Leb128.{ulebAt, slebAt}
 use Rattle.reader.specs.Twos.{word}

@@ -3,7 +3,7 @@ use mathlib.Core.Bool.{cond}
 use mathlib.Core.List.{List, map}
 use mathlib.Core.Option.{Option, none, some}
 use Prim.Native.Nat.{ℕ}
-use Rattle.reader.specs.Answer.{Answer, got, refused, Read, gives}
+use Rattle.reader.specs.Answer.{Answer, refused, Read, gives}
 use Rattle.reader.specs.Errors.{numberOf}
 use Rattle.reader.specs.Fields.{Span, skipAt}
 use Rattle.reader.specs.Twos.{word}

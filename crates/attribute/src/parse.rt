@@ -1,7 +1,7 @@
 // Values read by their specifications.
 
 ghost use mathlib.Core.Path.{_≡_};
-ghost use Prim.Native.Nat.{_+_, _*_, _/_, _≤_, _<_};
+ghost use Prim.Native.Nat.{_+_, _*_, _/_, _<_};
 ghost use lib.ListN.{length, drop};
 ghost use Rattle.abbrev.specs.Lookup.{specAt, specsFrom};
 ghost use Rattle.abbrev.specs.Table.{entryLimit};
@@ -36,7 +36,7 @@ pub struct Attributes {
 }
 
 // Whether a position and an offset keep document 01's sizes.
-pub(crate) fn keeps_place(count: usize, start: usize, at: usize) -> bool
+pub fn keeps_place(count: usize, start: usize, at: usize) -> bool
     ensures { λ r. ⌜ r ≡ keepsPlace count start at ⌝ }
 {
     if count < at {

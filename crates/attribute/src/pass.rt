@@ -9,7 +9,7 @@ ghost use Rattle.abbrev.specs.Lookup.{specsFrom};
 ghost use Rattle.abbrev.specs.Table.{entryLimit};
 ghost use Rattle.abbrev.specs.Views.{foundOf, specificationOf};
 ghost use Rattle.attribute.specs.Attributes.{readAttributes};
-ghost use Rattle.attribute.specs.Read.{refAddrAt, signedAt, stringAt, constantOf, rawAt, formAt, attributesAt};
+ghost use Rattle.attribute.specs.Read.{signedAt, stringAt, rawAt, formAt, attributesAt};
 ghost use Rattle.attribute.specs.Skip.{pastBlock};
 ghost use Rattle.attribute.specs.Steps.{Listed, passedAddress, passedConstant};
 use super::form::Layout;

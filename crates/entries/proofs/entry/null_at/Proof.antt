@@ -1,0 +1,11 @@
+use Rattle.attribute.proofs.ListLaws.{pad-none}
+use mir.Facts.{toZ-ofZ}
+use Rattle.entries.proofs.entry.null_at.Statement.{statement}
+use Rattle.entries.proofs.entry.null_at.Tie as tie
+
+pub null-at-spec : {M : Type 1} → statement M
+null-at-spec =
+    tie.close
+    (tie.spec
+    -- returns
+    (λ c. rw (pad-none 64, toZ-ofZ (c .fits .depth))))

@@ -1,0 +1,5 @@
+-- The definitions that the contracts of `entries` cite.
+pub mod Entry
+pub mod Read
+pub mod Raw
+pub mod Views

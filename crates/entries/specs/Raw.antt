@@ -1,0 +1,58 @@
+-- The raw reader: its state goes in and comes out; a refusal keeps it.
+use mathlib.Core.Bool.{Bool, cond}
+use mathlib.Core.List.{List}
+use mathlib.Core.Option.{Option}
+use Prim.Native.Nat.{ℕ, _+_, _^_}
+use lib.Dec.{leb, ltb}
+use lib.IntN.{ℤ, pos}
+use lib.ListN.{length}
+use Rattle.reader.specs.Answer.{Answer, got, refused, Read}
+use Rattle.reader.specs.declared.common.Encoding.{Encoding}
+use Rattle.reader.specs.declared.endianity.RunTimeEndian.{RunTimeEndian}
+use Rattle.abbrev.specs.Lookup.{Found}
+use Rattle.entries.specs.Read.{abbreviationAt, depthAfter, keepsState}
+use Rattle.entries.specs.declared.raw.EntriesRaw.{EntriesRaw}
+
+-- 01's sizes, over so many bytes
+abbrev pub keepsRaw : ℕ → EntriesRaw → Bool
+keepsRaw count w = keepsState count (w .start) (w .position) (w .depth)
+
+-- the state at another place and depth
+abbrev pub movedTo : EntriesRaw → ℕ → ℤ → EntriesRaw
+movedTo w at d =
+    record { start = w .start; position = at; depth = d; encoding = w .encoding; endian = w .endian }
+
+-- a reader over so many bytes that start at an offset; 01, question 1
+unfoldable pub opened : ℕ → ℕ → Encoding → RunTimeEndian → Answer EntriesRaw
+opened count start c e =
+    cond (ltb (start + count) (2 ^ 63))
+    (got (record { start = start; position = 0; depth = pos 0; encoding = c; endian = e }))
+    (refused 1)
+
+-- no byte is left
+unfoldable pub emptyRaw : ℕ → EntriesRaw → Bool
+emptyRaw count w = leb count (w .position)
+
+-- gimli's next_offset
+unfoldable pub offsetOf : EntriesRaw → Answer ℕ
+offsetOf w = cond (ltb (w .start + w .position) (2 ^ 63)) (got (w .start + w .position)) (refused 1)
+
+-- a value that was read, and the state that it leaves
+pub record Moved (A : Type 0) : Type 0 where
+  pub answer : Answer A
+  pub raw : EntriesRaw
+
+-- the state moves on after a value, and a refusal keeps it
+abbrev pub moves : {A : Type 0} → EntriesRaw → ℤ → Answer (Read A) → Moved A
+moves w d (got r) = record { answer = got (r .value); raw = movedTo w (r .next) d }
+moves w d (refused n) = record { answer = refused n; raw = w }
+
+-- what is read only where the sizes are kept
+abbrev pub judged : {A : Type 0} → Bool → Answer A → Answer A
+judged b r = cond b r (refused 1)
+
+-- gimli's read_abbreviation
+unfoldable pub rawAbbreviation : ℕ → EntriesRaw → List ℕ → List ℕ → List ℕ → Moved (Option Found)
+rawAbbreviation most w s rows specs =
+    moves w (depthAfter (abbreviationAt most s rows specs (w .position)) (w .depth))
+    (judged (keepsRaw (length s) w) (abbreviationAt most s rows specs (w .position)))

@@ -1,0 +1,213 @@
+// The raw reader: its state goes in by value and comes back beside the answer. A refusal keeps it.
+
+ghost use mathlib.Core.Bool.{cond};
+ghost use mathlib.Core.Path.{_≡_};
+ghost use Prim.Native.Nat.{_+_, _-_, _^_, _<_};
+ghost use lib.Dec.{leb};
+ghost use lib.IntN.{pos, _+ℤ_, _-ℤ_, natAbs};
+ghost use lib.ListN.{length};
+ghost use Rattle.reader.specs.Views.{viewPlace};
+ghost use Rattle.abbrev.specs.Table.{entryLimit};
+ghost use Rattle.entries.specs.Raw.{keepsRaw, movedTo, opened, emptyRaw, offsetOf, rawAbbreviation};
+ghost use Rattle.entries.specs.Read.{abbreviationAt};
+ghost use Rattle.entries.specs.Views.{viewOpened, viewCode, viewRawAbbreviation};
+use abbrev::lookup::Abbreviation;
+use abbrev::lookup::Lookup;
+use abbrev::lookup::get;
+use attribute::parse::keeps_place;
+use reader::answer::Place;
+use reader::answer::Word;
+use reader::common::Encoding;
+use reader::endianity::RunTimeEndian;
+use reader::error::Error;
+use reader::leb128::read_uleb128;
+
+pub struct EntriesRaw {
+    // the offset in the unit where the bytes start
+    pub start: usize,
+    pub position: usize,
+    // of the entry that is read next
+    pub depth: i64,
+    pub encoding: Encoding,
+    pub endian: RunTimeEndian,
+}
+
+pub enum Opened {
+    Got(EntriesRaw),
+    Refused(Error),
+}
+
+// What stands at a code: an abbreviation or a null, and the next place.
+pub enum Code {
+    Found(Abbreviation, usize),
+    Null(usize),
+    Refused(Error),
+}
+
+// What `read_abbreviation` says.
+pub enum Coded {
+    Found(Abbreviation),
+    Null,
+    Refused(Error),
+}
+
+pub struct RawAbbreviation {
+    pub answer: Coded,
+    pub raw: EntriesRaw,
+}
+
+// Whether a depth is no further from 0 than a position.
+fn keeps_depth(depth: i64, position: usize) -> bool
+    ensures { λ r. ⌜ r ≡ leb (natAbs depth) position ⌝ }
+{
+    if 0 <= depth {
+        return depth as usize <= position;
+    }
+    ((-1 - depth) as usize) < position
+}
+
+// What stands at a place that has a code.
+fn code_at(bytes: &[u8], rows: &[u64], specs: &[u64], at: usize) -> Code
+    ensures { λ r. ⌜ viewCode r ≡ abbreviationAt (entryLimit .most) (now (bytes .entry)) (now (rows .entry)) (now (specs .entry)) at ⌝ }
+{
+    match read_uleb128(bytes, at) {
+        Word::Got(code, next) => {
+            if code == 0 {
+                return Code::Null(next);
+            }
+            match get(rows, specs, code) {
+                Lookup::Found(abbreviation) => Code::Found(abbreviation, next),
+                Lookup::Absent => Code::Refused(Error::InvalidAbbreviationCode),
+                Lookup::Refused(e) => Code::Refused(e),
+            }
+        }
+        Word::Refused(e) => Code::Refused(e),
+    }
+}
+
+// The state at another place and depth.
+fn moved(raw: EntriesRaw, position: usize, depth: i64) -> EntriesRaw
+    ensures { λ r. ⌜ r ≡ movedTo raw position depth ⌝ }
+{
+    let encoding = raw.encoding;
+    let endian = raw.endian;
+    EntriesRaw {
+        start: raw.start,
+        position,
+        depth,
+        encoding,
+        endian,
+    }
+}
+
+// The depth after an entry.
+fn depth_after(depth: i64, has_children: bool) -> i64
+    requires { ⌜ natAbs depth < 2 ^ 63 - 1 ⌝ }
+    ensures { λ r. ⌜ r ≡ cond «has_children» (depth +ℤ pos 1) depth ⌝ }
+{
+    if has_children { depth + 1 } else { depth }
+}
+
+// The depth after a null.
+fn depth_below(depth: i64) -> i64
+    requires { ⌜ natAbs depth < 2 ^ 63 - 1 ⌝ }
+    ensures { λ r. ⌜ r ≡ depth -ℤ pos 1 ⌝ }
+{
+    depth - 1
+}
+
+// Whether a state keeps document 01's sizes over so many bytes.
+fn keeps_raw(count: usize, raw: EntriesRaw) -> bool
+    ensures { λ r. ⌜ r ≡ keepsRaw count raw ⌝ }
+{
+    if keeps_place(count, raw.start, raw.position) {
+        return keeps_depth(raw.depth, raw.position);
+    }
+    false
+}
+
+impl EntriesRaw {
+    // Over the bytes of a part that starts at `start`.
+    pub fn new(bytes: &[u8], start: usize, encoding: Encoding, endian: RunTimeEndian) -> Opened
+        ensures { λ r. ⌜ viewOpened r ≡ opened (length (now (bytes .entry))) start encoding endian ⌝ }
+    {
+        let count = bytes.len();
+        if 0x7fff_ffff_ffff_ffff < count {
+            return Opened::Refused(Error::SizeLimit);
+        }
+        if 0x7fff_ffff_ffff_ffff - count < start {
+            return Opened::Refused(Error::SizeLimit);
+        }
+        Opened::Got(EntriesRaw {
+            start,
+            position: 0,
+            depth: 0,
+            encoding,
+            endian,
+        })
+    }
+
+    pub fn is_empty(self, bytes: &[u8]) -> bool
+        ensures { λ r. ⌜ r ≡ emptyRaw (length (now (bytes .entry))) self ⌝ }
+    {
+        bytes.len() <= self.position
+    }
+
+    // Refused with 1 for a made-up state.
+    pub fn next_offset(self) -> Place
+        ensures { λ r. ⌜ viewPlace r ≡ offsetOf self ⌝ }
+    {
+        let start = self.start;
+        let position = self.position;
+        if 0x7fff_ffff_ffff_ffff < start {
+            return Place::Refused(Error::SizeLimit);
+        }
+        if 0x7fff_ffff_ffff_ffff - start < position {
+            return Place::Refused(Error::SizeLimit);
+        }
+        let offset = start + position;
+        Place::At(offset)
+    }
+
+    pub fn next_depth(self) -> i64
+        ensures { λ r. ⌜ r ≡ self .depth ⌝ }
+    {
+        self.depth
+    }
+
+    // gimli's `read_abbreviation`.
+    pub fn read_abbreviation(self, bytes: &[u8], rows: &[u64], specs: &[u64]) -> RawAbbreviation
+        ensures { λ r. ⌜ viewRawAbbreviation r ≡ rawAbbreviation (entryLimit .most) self (now (bytes .entry)) (now (rows .entry)) (now (specs .entry)) ⌝ }
+    {
+        if keeps_raw(bytes.len(), self) {
+            let depth = self.depth;
+            match code_at(bytes, rows, specs, self.position) {
+                Code::Found(abbreviation, next) => {
+                    let after = depth_after(depth, abbreviation.has_children);
+                    let raw = moved(self, next, after);
+                    return RawAbbreviation {
+                        answer: Coded::Found(abbreviation),
+                        raw,
+                    };
+                }
+                Code::Null(next) => {
+                    let raw = moved(self, next, depth_below(depth));
+                    return RawAbbreviation {
+                        answer: Coded::Null,
+                        raw,
+                    };
+                }
+                Code::Refused(e) => {
+                    return RawAbbreviation {
+                        answer: Coded::Refused(e),
+                        raw: self,
+                    };
+                }
+            }
+        }
+        RawAbbreviation {
+            answer: Coded::Refused(Error::SizeLimit),
+            raw: self,
+        }
+    }
+}
