@@ -1,17 +1,18 @@
 -- A table that was laid out is found again, whichever row holds which abbreviation.
-use mathlib.Core.Bool.{Bool, true, false, cond, _&&_}
+use mathlib.Core.Bool.{Bool, true, false, _&&_}
 use mathlib.Core.Option.{Option, none, some, Option·map}
-use mathlib.Core.Path.{_≡_, refl, sym, ap, subst, _∙_}
+use mathlib.Core.Path.{_≡_, refl, sym, ap, _∙_}
 use mathlib.Core.List.{List, [], _∷_, _++_, append-assoc, List·Permᴰ, List·Permᴰ·nil, List·Permᴰ·cons, List·Permᴰ·swap, List·Permᴰ·trans, Permᴰ·symm}
 use mathlib.Core.Logic.{_⊎_, inl, inr, ⊎-elim}
 use Prim.Native.Nat.{ℕ, zero, suc, _+_, _-_, _*_, _/_, _≤_, _<_}
 use native.Mathlib.Omega.{arith}
 use native.Mathlib.Nat.{suc-add}
-use borrow.Author.Tests.{eq-eqb, ne-eqb, eqb-true, eqb-false, lt-ltb, le-ltb, le-leb, leb-true}
+use borrow.Author.Tests.{ne-eqb, eqb-true, eqb-false, lt-ltb, le-ltb, le-leb, leb-true}
 use lib.Dec.{eqb, ltb, leb}
-use lib.ListN.{length, take, drop, getD, replicate, length-append, length-replicate}
+use lib.ListN.{length, take, drop, getD, replicate, length-append}
 use lib.Seq.{getD-take, getD-drop, take-at, drop-at}
 use Rattle.reader.specs.Answer.{Answer, got, refused, andThen, Holds}
+use Rattle.reader.proofs.Answers.{cond-by}
 use Rattle.abbrev.specs.Lookup.{column, indexOf, specAt, specsFrom, fair, allFair, specificationAt, attributeAt, Found, rowAt, specsKept, keepsSizes, judgedRow, rowFound, lookup, declarationOf, declaredIn}
 use Rattle.abbrev.specs.Rows.{specWords, allSpecs, Row, rowWords, rowsWords, rowsFrom, Laid, Left}
 use Rattle.abbrev.specs.Table.{Specification, Declaration, Limit, abbreviationsAt}
@@ -293,3 +294,17 @@ attribute-nth most specs f i d k h =
     let g : fair (specAt specs ((f .first + i) * 3)) ≡ true = ap fair (sym s) ∙ fair-nth (f .count) i l h (b .fairs) in
     let n : getD (specsFrom (f .count) l) i d ≡ specAt specs ((f .first + i) * 3) = specs-nth (f .count) i l d h ∙ s in
     rw (lt-ltb i (f .count) h, lt-ltb (f .first + i) (length specs / 3) (omega (arith, b .inside)), g, n)
+
+-- a row that a lookup finds keeps the sizes
+abbrev pub Keeps : ℕ → List ℕ → Option Found → Type 0
+Keeps most specs none = Unit {0}
+Keeps most specs (some f) = keepsSizes most specs f ≡ true
+
+pub lookup-keeps : (most : ℕ) (rows specs : List ℕ) (code : ℕ) → Holds (Keeps most specs) (lookup most rows specs code)
+unfolding lookup rowFound judgedRow
+lookup-keeps most rows specs code =
+    cond-by (Holds (Keeps most specs)) (eqb code 0) (got none) _ (λ _. tt)
+    (λ _.
+    cond-by (Holds (Keeps most specs)) (ltb (indexOf code (column (length rows / 5) rows)) (length rows / 5)) _ (got none)
+    (λ _. cond-by (Holds (Keeps most specs)) (keepsSizes most specs (rowAt rows (indexOf code (column (length rows / 5) rows)))) _ (refused 1) (λ h. h) (λ _. tt))
+    (λ _. tt))

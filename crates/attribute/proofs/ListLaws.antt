@@ -7,7 +7,7 @@ use native.Mathlib.Omega.{arith}
 use native.Mathlib.Numerals.{add-one}
 use lib.ListN.{length, getD, set, drop, replicate, length-append, length-map, drop-of-length-le}
 use lib.Seq.{drop-cons}
-use borrow.Author.Tests.{leb-true, ltb-true}
+use borrow.Author.Tests.{le-leb, lt-ltb, leb-true, ltb-true}
 use lib.Dec.{leb, ltb}
 use Rattle.reader.specs.Answer.{Answer, got, refused, andThen, Read, gives, endOf, Holds}
 use Rattle.reader.specs.Fields.{skipAt}
@@ -235,3 +235,9 @@ listed-spec specs first count i l h =
     let g : fair (specAt specs ((first + i) * 3)) ≡ true = ap fair (sym q) ∙ fair-nth count i l1 h (l .fairs) in
     let b = both (leb (getD specs ((first + i) * 3) 0) 65535) (leb (getD specs ((first + i) * 3 + 1) 0) 65535) g in
     record { there = omega (arith, l .there); name = leb-true _ _ (b .0); form = leb-true _ _ (b .1); is = sym q }
+
+-- reading where the sizes are kept
+pub read-kept : (most : ℕ) (s : List ℕ) (start : ℕ) (c : Encoding) (e : RunTimeEndian) (specs : List ℕ) (f : Found) (at : ℕ) → at ≤ length s → start + length s < 2 ^ 63 → keepsSizes most specs f ≡ true
+    → readAttributes most s start c e specs f at ≡ attributesAt s start c e (declarationOf specs f .specifications) at
+unfolding readAttributes
+read-kept most s start c e specs f at h l k = rw (le-leb at (length s) h, lt-ltb (start + length s) (2 ^ 63) l, k)

@@ -1,23 +1,34 @@
 -- Laws of the raw reader.
-use mathlib.Core.Bool.{Bool, true, false, cond}
-use mathlib.Core.Path.{_≡_, refl, ap}
+use mathlib.Core.Bool.{Bool, true, false, cond, _&&_}
+use mathlib.Core.Path.{_≡_, refl, sym, ap, _∙_}
 use mathlib.Core.List.{List}
 use mathlib.Core.Option.{Option, none, some}
 use Prim.Native.Nat.{ℕ, _+_, _-_, _^_, _≤_, _<_}
 use native.Mathlib.Omega.{arith}
-use borrow.Author.Tests.{leb-true, ltb-true}
+use borrow.Author.Tests.{leb-true, ltb-true, ne-eqb}
 use lib.Dec.{eqb, leb, ltb}
 use lib.IntN.{ℤ, pos, _+ℤ_, natAbs}
 use lib.ListN.{length}
-use Rattle.reader.specs.Answer.{Answer, got, refused, gives, Holds}
+use Rattle.reader.specs.Answer.{Answer, got, refused, andThen, Read, gives, Holds}
 use Rattle.reader.specs.Leb128.{ulebAt}
 use Rattle.reader.proofs.Accepted.{Ends, uleb-ends}
-use Rattle.reader.proofs.Answers.{holds-then, cond-by}
-use Rattle.abbrev.specs.Lookup.{Found, lookup}
-use Rattle.attribute.specs.Attributes.{keepsPlace}
+use Rattle.reader.proofs.Answers.{holds-then, holds-map, cond-by}
+use Rattle.abbrev.specs.Lookup.{Found, specsKept, keepsSizes, lookup, declarationOf}
+use Rattle.attribute.specs.Attributes.{keepsPlace, readAttributes, Stored, stored}
 use Rattle.attribute.proofs.FormLaws.{both}
-use Rattle.entries.specs.Raw.{keepsRaw, Moved}
-use Rattle.entries.specs.Read.{known, abbreviationAt, raised}
+use Rattle.attribute.proofs.ListLaws.{read-kept}
+use Rattle.attribute.proofs.ReadLaws.{Onward as Onwards, attributes-past}
+use Rattle.attribute.specs.Read.{attributesAt}
+use Rattle.attribute.specs.Skip.{pastValues}
+use Rattle.abbrev.specs.Table.{Specification}
+use Rattle.reader.specs.declared.common.Encoding.{Encoding}
+use Rattle.reader.specs.declared.endianity.RunTimeEndian.{RunTimeEndian}
+use Rattle.attribute.specs.Value.{Attribute}
+use Rattle.abbrev.proofs.Lookups.{Keeps, lookup-keeps}
+use Rattle.entries.specs.Entry.{Entry, entryOf}
+use Rattle.entries.specs.Steps.{Onward, tookEntry}
+use Rattle.entries.specs.Raw.{keepsRaw, Moved, Taken, taken, refusedEntry, rawEntry}
+use Rattle.entries.specs.Read.{known, abbreviationAt, raised, entryAfter, entryAt}
 use Rattle.entries.specs.declared.raw.EntriesRaw.{EntriesRaw}
 
 -- a state that keeps 01's sizes
@@ -62,3 +73,114 @@ same-moved {A} x e = ap (λ (v : EntriesRaw). as-moved v) e
   where
     as-moved : EntriesRaw → Moved A
     as-moved v = record { answer = x; raw = v }
+
+-- the found row of an entry keeps 01's sizes
+abbreviation-keeps : (most : ℕ) (s rows specs : List ℕ) (at : ℕ) → Holds (λ v. Keeps most specs (v .value)) (abbreviationAt most s rows specs at)
+unfolding abbreviationAt
+abbreviation-keeps most s rows specs at = go (ulebAt s at 64)
+  where
+    kept-by : (p : ℕ) (r : Answer (Option Found)) → Holds (Keeps most specs) r → Holds (λ (v : Read (Option Found)). Keeps most specs (v .value)) (known r p)
+    kept-by p (got none) h = tt
+    kept-by p (got (some f)) h = h
+    kept-by p (refused n) h = tt
+
+    go : (u : Answer (Read ℕ)) → Holds (λ (v : Read (Option Found)). Keeps most specs (v .value)) (andThen u (λ r. cond (eqb (r .value) 0) (gives none (r .next)) (known (lookup most rows specs (r .value)) (r .next))))
+    go (got r) =
+        cond-by (Holds (λ (v : Read (Option Found)). Keeps most specs (v .value))) (eqb (r .value) 0) (gives none (r .next)) _ (λ _. tt)
+        (λ _. kept-by (r .next) (lookup most rows specs (r .value)) (lookup-keeps most rows specs (r .value)))
+    go (refused n) = tt
+
+pub found-keeps : (most : ℕ) (s rows specs : List ℕ) (at : ℕ) {f : Found} {p : ℕ} → abbreviationAt most s rows specs at ≡ gives (some f) p → keepsSizes most specs f ≡ true
+found-keeps most s rows specs at e = rw e at (abbreviation-keeps most s rows specs at)
+
+-- from a state that keeps the sizes to a place further on
+pub goes-on : (count : ℕ) (w : EntriesRaw) {p : ℕ} → KeptRaw count w → w .position < p → p ≤ count → Onward w p
+goes-on count w k h l = record { above = h; short = omega (arith, k .short); near = k .near }
+
+pub onward-near : (w : EntriesRaw) {p : ℕ} → Onward w p → natAbs (w .depth) < 2 ^ 63 - 1
+onward-near w o = omega (arith, o .above, o .short, o .near)
+
+-- the same entry beside the same state
+pub same-taken : (x : Answer Bool) {e g : Entry} {v u : EntriesRaw} → e ≡ g → v ≡ u → _≡_ {A = Taken} (record { answer = x; entry = e; raw = v }) (record { answer = x; entry = g; raw = u })
+same-taken x {e} {g} {v} {u} p q = ap (λ (a : Entry). as-taken a v) p ∙ ap (λ (b : EntriesRaw). as-taken g b) q
+  where
+    as-taken : Entry → EntriesRaw → Taken
+    as-taken a b = record { answer = x; entry = a; raw = b }
+
+pub bit-back : (b : Bool) → eqb (cond b 1 0) 1 ≡ b
+bit-back true = refl
+bit-back false = refl
+
+-- an entry whose values were stored, and one whose values refuse
+module _ (w : EntriesRaw) (f : Found) (r : Answer (Read (List Attribute))) where
+  pub stored-entry : {p : ℕ} → 0 < f .tag → stored 64 r .end ≡ got p → tookEntry w f (stored 64 r .attrs) p ≡ taken 64 w (raised (f .children) (w .depth)) (andThen r (λ v. gives (entryOf 64 (w .start + w .position) (w .depth) f (v .value)) (v .next)))
+  unfolding stored
+  stored-entry {p} h e = go r e
+    where
+      go : (x : Answer (Read (List Attribute))) → stored 64 x .end ≡ got p → tookEntry w f (stored 64 x .attrs) p ≡ taken 64 w (raised (f .children) (w .depth)) (andThen x (λ v. gives (entryOf 64 (w .start + w .position) (w .depth) f (v .value)) (v .next)))
+      go (got v) q = let z : v .next ≡ p = cc in rw (z, ne-eqb (f .tag) 0 (λ y. omega (arith, y)))
+      go (refused n) q = let z : _≡_ {A = ℕ} 0 1 = cc in absurd (omega arith)
+
+  pub stored-refused : {k : ℕ} (d : ℤ) → stored 64 r .end ≡ refused k → refusedEntry 64 w k ≡ taken 64 w d (andThen r (λ v. gives (entryOf 64 (w .start + w .position) (w .depth) f (v .value)) (v .next)))
+  unfolding stored
+  stored-refused {k} d e = go r e
+    where
+      go : (x : Answer (Read (List Attribute))) → stored 64 x .end ≡ refused k → refusedEntry 64 w k ≡ taken 64 w d (andThen x (λ v. gives (entryOf 64 (w .start + w .position) (w .depth) f (v .value)) (v .next)))
+      go (got v) q = let z : _≡_ {A = ℕ} 0 1 = cc in absurd (omega arith)
+      go (refused n) q = let z : n ≡ k = cc in rw z
+
+-- values that were stored end further on
+pub stored-onward : (s : List ℕ) (at : ℕ) (w : EntriesRaw) (r : Answer (Read (List Attribute))) {p : ℕ} → KeptRaw (length s) w → w .position < at → Holds (λ v. Onwards s at (v .next)) r → stored 64 r .end ≡ got p → Onward w p
+unfolding stored
+stored-onward s at w (got v) {p} k h o e =
+    let z : v .next ≡ p = cc in
+    goes-on (length s) w k (omega (arith, z, o .from)) (omega (arith, z, o .within))
+stored-onward s at w (refused n) k h o e = let z : _≡_ {A = ℕ} 0 1 = cc in absurd (omega arith)
+
+-- a row that keeps the sizes has a tag
+pub tagged : (most : ℕ) (specs : List ℕ) (f : Found) → keepsSizes most specs f ≡ true → 0 < f .tag
+tagged most specs f h =
+    let a = both (ltb 0 (f .tag) && leb (f .tag) 65535 && leb (f .children) 1) (specsKept most specs (f .first) (f .count)) h .0 in
+    let b = both (ltb 0 (f .tag) && leb (f .tag) 65535) (leb (f .children) 1) a .0 in
+    ltb-true _ _ (both (ltb 0 (f .tag)) (leb (f .tag) 65535) b .0)
+
+pub values-onward : (s : List ℕ) (start : ℕ) (c : Encoding) (e : RunTimeEndian) (xs : List Specification) (at : ℕ) (w : EntriesRaw) {p : ℕ} → KeptRaw (length s) w → w .position < at → at ≤ length s → stored 64 (attributesAt s start c e xs at) .end ≡ got p → Onward w p
+values-onward s start c e xs at w k h l q =
+    stored-onward s at w (attributesAt s start c e xs at) k h
+    (holds-map (λ r. (pastValues s c e xs at ≡ got (r .next)) × Onwards s at (r .next)) (λ r. Onwards s at (r .next)) (attributesAt s start c e xs at) (λ r y. y .1) (attributes-past s start c e xs at l)) q
+
+-- ---- an entry of a found row
+
+module _ (w : EntriesRaw) (s rows specs : List ℕ) (h : keepsRaw (length s) w ≡ true) {f : Found} {p : ℕ} (a : abbreviationAt 64 s rows specs (w .position) ≡ gives (some f) p) where
+  k : KeptRaw (length s) w
+  k = raw-kept (length s) w h
+
+  further : (w .position < p) × (p ≤ length s)
+  further = rw a at (abbreviation-in 64 s rows specs (w .position))
+
+  values : Answer (Read (List Attribute))
+  values = attributesAt s (w .start) (w .encoding) (w .endian) (declarationOf specs f .specifications) p
+
+  sizes : keepsSizes 64 specs f ≡ true
+  sizes = found-keeps 64 s rows specs (w .position) a
+
+  module _ {x : Stored} (e : x ≡ stored 64 (readAttributes 64 s (w .start) (w .encoding) (w .endian) specs f p)) where
+    kept-values : x ≡ stored 64 values
+    unfolding values
+    kept-values = e ∙ ap (stored 64) (read-kept 64 s (w .start) (w .encoding) (w .endian) specs f p (further .1) (k .short) sizes)
+
+    ended : {m : Answer ℕ} → x .end ≡ m → stored 64 values .end ≡ m
+    ended q = sym (ap (λ (y : Stored). y .end) kept-values) ∙ q
+
+    pub entry-onward : {q : ℕ} → x .end ≡ got q → Onward w q
+    unfolding values
+    entry-onward q = values-onward s (w .start) (w .encoding) (w .endian) (declarationOf specs f .specifications) p w k (further .0) (further .1) (ended q)
+
+    pub entry-read : {q : ℕ} → x .end ≡ got q → tookEntry w f (x .attrs) q ≡ rawEntry 64 w s rows specs
+    unfolding rawEntry entryAt entryAfter values
+    entry-read {q} r =
+        ap (λ (l : List Attribute). tookEntry w f l q) (ap (λ (y : Stored). y .attrs) kept-values) ∙ rw (h, a) (stored-entry w f values (tagged 64 specs f sizes) (ended r))
+
+    pub entry-refused : {n : ℕ} → x .end ≡ refused n → refusedEntry 64 w n ≡ rawEntry 64 w s rows specs
+    unfolding rawEntry entryAt entryAfter values
+    entry-refused r = rw (h, a) (stored-refused w f values _ (ended r))

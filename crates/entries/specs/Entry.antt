@@ -7,6 +7,7 @@ use lib.Dec.{eqb, leb, ltb}
 use lib.IntN.{ℤ}
 use lib.ListN.{take}
 use Rattle.reader.specs.Answer.{ifSome}
+use Rattle.abbrev.specs.Lookup.{Found}
 use Rattle.attribute.specs.Attributes.{pad}
 use Rattle.attribute.specs.Forms.{caseOf}
 use Rattle.attribute.specs.Value.{Attribute}
@@ -24,6 +25,11 @@ pub record Entry : Type 0 where
 abbrev pub nullEntry : ℕ → ℕ → ℤ → Entry
 nullEntry most offset depth =
     record { tag = 0; children = false; offset = offset; depth = depth; count = 0; attrs = pad most [] }
+
+-- the entry of a found row, with its values
+abbrev pub entryOf : ℕ → ℕ → ℤ → Found → List Attribute → Entry
+entryOf most offset depth f vs =
+    record { tag = f .tag; children = eqb (f .children) 1; offset = offset; depth = depth; count = f .count; attrs = pad most vs }
 
 abbrev pub isNull : Entry → Bool
 isNull e = eqb (e .tag) 0

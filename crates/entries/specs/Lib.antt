@@ -2,4 +2,5 @@
 pub mod Entry
 pub mod Read
 pub mod Raw
+pub mod Steps
 pub mod Views

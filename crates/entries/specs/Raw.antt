@@ -1,5 +1,5 @@
 -- The raw reader: its state goes in and comes out; a refusal keeps it.
-use mathlib.Core.Bool.{Bool, cond}
+use mathlib.Core.Bool.{Bool, not, cond}
 use mathlib.Core.List.{List}
 use mathlib.Core.Option.{Option}
 use Prim.Native.Nat.{ℕ, _+_, _^_}
@@ -10,7 +10,8 @@ use Rattle.reader.specs.Answer.{Answer, got, refused, Read}
 use Rattle.reader.specs.declared.common.Encoding.{Encoding}
 use Rattle.reader.specs.declared.endianity.RunTimeEndian.{RunTimeEndian}
 use Rattle.abbrev.specs.Lookup.{Found}
-use Rattle.entries.specs.Read.{abbreviationAt, depthAfter, keepsState}
+use Rattle.entries.specs.Entry.{Entry, nullEntry, isNull}
+use Rattle.entries.specs.Read.{Source, abbreviationAt, depthAfter, entryAt, keepsState}
 use Rattle.entries.specs.declared.raw.EntriesRaw.{EntriesRaw}
 
 -- 01's sizes, over so many bytes
@@ -56,3 +57,27 @@ unfoldable pub rawAbbreviation : ℕ → EntriesRaw → List ℕ → List ℕ �
 rawAbbreviation most w s rows specs =
     moves w (depthAfter (abbreviationAt most s rows specs (w .position)) (w .depth))
     (judged (keepsRaw (length s) w) (abbreviationAt most s rows specs (w .position)))
+
+abbrev pub sourceOf : EntriesRaw → Source
+sourceOf w = record { start = w .start; encoding = w .encoding; endian = w .endian }
+
+-- an entry or a null that was read, with whether it is an entry, and the state
+pub record Taken : Type 0 where
+  pub answer : Answer Bool
+  pub entry : Entry
+  pub raw : EntriesRaw
+
+-- a refusal: a null at offset and depth 0, and the state as it was
+abbrev pub refusedEntry : ℕ → EntriesRaw → ℕ → Taken
+refusedEntry most w n = record { answer = refused n; entry = nullEntry most 0 (pos 0); raw = w }
+
+abbrev pub taken : ℕ → EntriesRaw → ℤ → Answer (Read Entry) → Taken
+taken most w d (got r) =
+    record { answer = got (not (isNull (r .value))); entry = r .value; raw = movedTo w (r .next) d }
+taken most w d (refused n) = refusedEntry most w n
+
+-- gimli's read_entry
+unfoldable pub rawEntry : ℕ → EntriesRaw → List ℕ → List ℕ → List ℕ → Taken
+rawEntry most w s rows specs =
+    taken most w (depthAfter (abbreviationAt most s rows specs (w .position)) (w .depth))
+    (judged (keepsRaw (length s) w) (entryAt most (sourceOf w) s rows specs (w .position) (w .depth)))

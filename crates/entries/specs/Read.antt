@@ -1,4 +1,4 @@
--- Codes of entries read one after another, with their depths.
+-- Entries read one after another, with their depths.
 use mathlib.Core.Bool.{Bool, cond, _&&_}
 use mathlib.Core.List.{List}
 use mathlib.Core.Option.{Option, none, some}
@@ -7,8 +7,12 @@ use lib.Dec.{eqb, leb}
 use lib.IntN.{ℤ, pos, _+ℤ_, _-ℤ_, natAbs}
 use Rattle.reader.specs.Answer.{Answer, got, refused, andThen, ifSome, Read, gives}
 use Rattle.reader.specs.Leb128.{ulebAt}
-use Rattle.abbrev.specs.Lookup.{Found, lookup}
+use Rattle.reader.specs.declared.common.Encoding.{Encoding}
+use Rattle.reader.specs.declared.endianity.RunTimeEndian.{RunTimeEndian}
+use Rattle.abbrev.specs.Lookup.{Found, lookup, declarationOf}
 use Rattle.attribute.specs.Attributes.{keepsPlace}
+use Rattle.attribute.specs.Read.{attributesAt}
+use Rattle.entries.specs.Entry.{Entry, nullEntry, entryOf}
 
 -- what a lookup says of a code that is not 0; 01, question 16
 abbrev pub known : Answer (Option Found) → ℕ → Answer (Read (Option Found))
@@ -28,6 +32,25 @@ raised children d = cond (eqb children 1) (d +ℤ pos 1) d
 abbrev pub depthAfter : Answer (Read (Option Found)) → ℤ → ℤ
 depthAfter (refused n) d = d
 depthAfter (got r) d = ifSome (r .value) (d -ℤ pos 1) (λ f. raised (f .children) d)
+
+-- how values are read: the start of the bytes, the encoding and the order
+pub record Source : Type 0 where
+  pub start : ℕ
+  pub encoding : Encoding
+  pub endian : RunTimeEndian
+
+-- what follows a code: a null, or the entry of a found row with its values
+unfoldable pub entryAfter : ℕ → Source → List ℕ → List ℕ → ℕ → ℤ → Read (Option Found) → Answer (Read Entry)
+entryAfter most src s specs at d r =
+    ifSome (r .value) (gives (nullEntry most (src .start + at) d) (r .next))
+    (λ f.
+    andThen (attributesAt s (src .start) (src .encoding) (src .endian) (declarationOf specs f .specifications) (r .next))
+    (λ v. gives (entryOf most (src .start + at) d f (v .value)) (v .next)))
+
+-- the entry, or the null, at a place and a depth
+unfoldable pub entryAt : ℕ → Source → List ℕ → List ℕ → List ℕ → ℕ → ℤ → Answer (Read Entry)
+entryAt most src s rows specs at d =
+    andThen (abbreviationAt most s rows specs at) (entryAfter most src s specs at d)
 
 -- 01's sizes of a state: its position, its start and its depth
 abbrev pub keepsState : ℕ → ℕ → ℕ → ℤ → Bool

@@ -10,7 +10,7 @@ use Rattle.attribute.specs.Value.{Attribute}
 use Rattle.attribute.specs.Views.{viewAttribute, viewValue}
 use Rattle.attribute.specs.declared.value.Value.{Value}
 use Rattle.entries.specs.Entry.{Entry}
-use Rattle.entries.specs.Raw.{Moved}
+use Rattle.entries.specs.Raw.{Moved, Taken}
 use Rattle.entries.specs.declared.entry.Entry as declared-entry
 use Rattle.entries.specs.declared.entry.Named.{Named}
 use Rattle.entries.specs.declared.entry.Named.the-variants as named-attribute
@@ -24,6 +24,9 @@ use Rattle.entries.specs.declared.raw.EntriesRaw.{EntriesRaw}
 use Rattle.entries.specs.declared.raw.Opened.{Opened}
 use Rattle.entries.specs.declared.raw.Opened.the-variants as opening
 use Rattle.entries.specs.declared.raw.RawAbbreviation.{RawAbbreviation}
+use Rattle.entries.specs.declared.raw.RawEntry.{RawEntry}
+use Rattle.entries.specs.declared.raw.Said.{Said}
+use Rattle.entries.specs.declared.raw.Said.the-variants as said
 
 abbrev pub viewEntry : declared-entry.Entry → Entry
 viewEntry e =
@@ -69,3 +72,12 @@ viewCoded (coded.Refused e) = refused (numberOf e)
 
 abbrev pub viewRawAbbreviation : RawAbbreviation → Moved (Option Found)
 viewRawAbbreviation r = record { answer = viewCoded (r .answer); raw = r .raw }
+
+-- whether it is an entry
+abbrev pub viewSaid : Said → Answer Bool
+viewSaid said.Entry = got true
+viewSaid said.Null = got false
+viewSaid (said.Refused e) = refused (numberOf e)
+
+abbrev pub viewRawEntry : RawEntry → Taken
+viewRawEntry r = record { answer = viewSaid (r .answer); entry = viewEntry (r .entry); raw = r .raw }

@@ -1,20 +1,31 @@
 // The raw reader: its state goes in by value and comes back beside the answer. A refusal keeps it.
 
 ghost use mathlib.Core.Bool.{cond};
+ghost use mathlib.Core.List.{map};
 ghost use mathlib.Core.Path.{_≡_};
 ghost use Prim.Native.Nat.{_+_, _-_, _^_, _<_};
 ghost use lib.Dec.{leb};
 ghost use lib.IntN.{pos, _+ℤ_, _-ℤ_, natAbs};
 ghost use lib.ListN.{length};
+ghost use Rattle.reader.specs.Answer.{gives};
+ghost use Rattle.reader.specs.Errors.{numberOf};
 ghost use Rattle.reader.specs.Views.{viewPlace};
 ghost use Rattle.abbrev.specs.Table.{entryLimit};
-ghost use Rattle.entries.specs.Raw.{keepsRaw, movedTo, opened, emptyRaw, offsetOf, rawAbbreviation};
+ghost use Rattle.abbrev.specs.Views.{foundOf};
+ghost use Rattle.attribute.specs.Views.{viewAttribute};
+ghost use Rattle.entries.specs.Entry.{nullEntry};
+ghost use Rattle.entries.specs.Raw.{keepsRaw, movedTo, opened, emptyRaw, offsetOf, rawAbbreviation, refusedEntry, taken, rawEntry};
 ghost use Rattle.entries.specs.Read.{abbreviationAt};
-ghost use Rattle.entries.specs.Views.{viewOpened, viewCode, viewRawAbbreviation};
+ghost use Rattle.entries.specs.Steps.{Onward, tookEntry};
+ghost use Rattle.entries.specs.Views.{viewOpened, viewCode, viewRawAbbreviation, viewRawEntry};
+use super::entry::Entry;
+use super::entry::null_at;
 use abbrev::lookup::Abbreviation;
 use abbrev::lookup::Lookup;
 use abbrev::lookup::get;
 use attribute::parse::keeps_place;
+use attribute::parse::read_attributes;
+use attribute::value::Attribute;
 use reader::answer::Place;
 use reader::answer::Word;
 use reader::common::Encoding;
@@ -53,6 +64,20 @@ pub enum Coded {
 
 pub struct RawAbbreviation {
     pub answer: Coded,
+    pub raw: EntriesRaw,
+}
+
+// What `read_entry` says of the entry beside it.
+pub enum Said {
+    Entry,
+    Null,
+    Refused(Error),
+}
+
+// The entry is a null at offset and depth 0 after a refusal.
+pub struct RawEntry {
+    pub answer: Said,
+    pub entry: Entry,
     pub raw: EntriesRaw,
 }
 
@@ -124,6 +149,64 @@ fn keeps_raw(count: usize, raw: EntriesRaw) -> bool
         return keeps_depth(raw.depth, raw.position);
     }
     false
+}
+
+// Refused: the state is kept.
+fn refuse(raw: EntriesRaw, error: Error) -> RawEntry
+    ensures { λ r. ⌜ viewRawEntry r ≡ refusedEntry 64 raw (numberOf error) ⌝ }
+{
+    RawEntry {
+        answer: Said::Refused(error),
+        entry: null_at(0, 0),
+        raw,
+    }
+}
+
+// A null at the state's place.
+fn take_null(raw: EntriesRaw, next: usize) -> RawEntry
+    requires { ⌜ Onward raw next ⌝ }
+    ensures { λ r. ⌜ viewRawEntry r ≡ taken 64 raw (raw .depth -ℤ pos 1) (gives (nullEntry 64 (raw .start + raw .position) (raw .depth)) next) ⌝ }
+{
+    let depth = raw.depth;
+    let offset = raw.start + raw.position;
+    let entry = null_at(offset, depth);
+    let below = depth_below(depth);
+    let after = moved(raw, next, below);
+    RawEntry {
+        answer: Said::Null,
+        entry,
+        raw: after,
+    }
+}
+
+// The entry at the state's place, whose values were read up to `next`.
+fn take_entry(
+    raw: EntriesRaw,
+    abbreviation: Abbreviation,
+    attrs: [Attribute; 64],
+    next: usize,
+) -> RawEntry
+    requires { ⌜ Onward raw next ⌝ }
+    ensures { λ r. ⌜ viewRawEntry r ≡ tookEntry raw (foundOf abbreviation) (map viewAttribute attrs) next ⌝ }
+{
+    let depth = raw.depth;
+    let offset = raw.start + raw.position;
+    let has_children = abbreviation.has_children;
+    let entry = Entry {
+        tag: abbreviation.tag,
+        has_children,
+        offset,
+        depth,
+        count: abbreviation.count,
+        attrs,
+    };
+    let down = depth_after(depth, has_children);
+    let after = moved(raw, next, down);
+    RawEntry {
+        answer: Said::Entry,
+        entry,
+        raw: after,
+    }
 }
 
 impl EntriesRaw {
@@ -209,5 +292,46 @@ impl EntriesRaw {
             answer: Coded::Refused(Error::SizeLimit),
             raw: self,
         }
+    }
+
+    // gimli's `read_entry`.
+    pub fn read_entry(self, bytes: &[u8], rows: &[u64], specs: &[u64]) -> RawEntry
+        ensures { λ r. ⌜ viewRawEntry r ≡ rawEntry (entryLimit .most) self (now (bytes .entry)) (now (rows .entry)) (now (specs .entry)) ⌝ }
+    {
+        if keeps_raw(bytes.len(), self) {
+            match code_at(bytes, rows, specs, self.position) {
+                Code::Found(abbreviation, next) => {
+                    let encoding = self.encoding;
+                    let endian = self.endian;
+                    let start = self.start;
+                    let read = read_attributes(
+                        bytes,
+                        start,
+                        next,
+                        encoding,
+                        endian,
+                        abbreviation,
+                        specs,
+                    );
+                    let end = read.end;
+                    let attrs = read.attrs;
+                    match end {
+                        Place::At(after) => {
+                            return take_entry(self, abbreviation, attrs, after);
+                        }
+                        Place::Refused(e) => {
+                            return refuse(self, e);
+                        }
+                    }
+                }
+                Code::Null(next) => {
+                    return take_null(self, next);
+                }
+                Code::Refused(e) => {
+                    return refuse(self, e);
+                }
+            }
+        }
+        refuse(self, Error::SizeLimit)
     }
 }

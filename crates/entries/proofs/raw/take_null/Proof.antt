@@ -1,0 +1,23 @@
+use Rattle.entries.proofs.RawLaws.{onward-near, same-taken}
+use Rattle.entries.specs.Raw.{movedTo}
+use borrow.Author.Needs.{needs}
+use mathlib.Core.Path.{_≡_, sym, ap, _∙_}
+use mir.Facts.{toZ-ofZ}
+use mir.Syntax.{w64}
+use mir.Val.{toZ, ofZ}
+use native.Mathlib.Omega.{arith}
+use Rattle.entries.proofs.raw.take_null.Statement.{statement}
+use Rattle.entries.proofs.raw.take_null.Tie as tie
+
+pub take-null-spec : {M : Type 1} → statement M
+take-null-spec =
+    tie.close
+    (tie.spec
+    -- add-offset
+    (λ c. record { fits = omega (arith, c .before .before .pre .short, c .before .before .pre .above) })
+    (λ c κs. search needs)
+    -- depth-below-requires
+    (λ c κs. let e : toZ w64 (ofZ w64 ((c .before .before .before .args .raw) .depth)) ≡ (c .before .before .before .args .raw) .depth = search needs in rw e (onward-near (c .before .before .before .args .raw) (c .before .before .before .pre)))
+    (λ c κs. search needs)
+    -- returns
+    (λ c. let e : toZ w64 (ofZ w64 ((c .before .before .before .before .before .args .raw) .depth)) ≡ (c .before .before .before .before .before .args .raw) .depth = search needs in let f : toZ w64 (ofZ w64 (c .before .depth-below .result)) ≡ c .before .depth-below .result = toZ-ofZ {w = w64} {z = c .before .depth-below .result} (record { sfits = c .before .depth-below .ok }) in same-taken _ (rw e at (c .before .before .null-at .ensures)) (c .moved .ensures ∙ ap (movedTo (c .before .before .before .before .before .args .raw) (c .before .before .before .before .before .args .next)) (f ∙ rw e at (c .before .depth-below .ensures)))))
