@@ -11,6 +11,7 @@ use Rattle.abbrev.specs.Lookup.{Found}
 use Rattle.attribute.specs.Attributes.{pad}
 use Rattle.attribute.specs.Forms.{caseOf}
 use Rattle.attribute.specs.Value.{Attribute}
+use Rattle.attribute.specs.declared.form.Kind.the-variants as K
 
 -- 01: an entry carries its values itself; places past the count hold one fixed attribute
 pub record Entry : Type 0 where
@@ -48,7 +49,7 @@ sibling = 1
 
 -- the number of the case UnitRef
 abbrev pub unitRef : ℕ
-unitRef = 14
+unitRef = caseOf K.UnitRef .number
 
 -- gimli's sibling: the first attribute of that name, where it is a UnitRef above the entry's own offset
 unfoldable pub siblingOf : Entry → Option ℕ
