@@ -6,13 +6,21 @@ use Prim.Native.Nat.{ℕ, zero, suc, _+_, _-_, _*_, _/_, _≤_, _<_}
 use native.Mathlib.Omega.{arith}
 use native.Mathlib.Nat.{zero-add, suc-add}
 use native.Mathlib.Numerals.{add-one}
-use borrow.Author.Tests.{eq-eqb, ne-eqb, lt-ltb, le-leb, lt-leb}
+use borrow.Author.Tests.{eq-eqb, ne-eqb, eqb-true, lt-ltb, le-leb, lt-leb}
 use lib.Dec.{ltb, leb, eqb, leb·suc-suc}
 use lib.ListN.{length, take, drop, getD, length-drop, List·getD-append}
 use lib.Seq.{getD-drop, getD-take, drop-drop, drop-append-le, take-nil, length-take-le}
-use Rattle.abbrev.specs.Lookup.{column, indexOf}
+use Rattle.abbrev.specs.Lookup.{column, indexOf, leadingFrom, leading}
 use Rattle.abbrev.specs.Steps.{Fresh}
 use Rattle.abbrev.specs.Table.{has}
+
+-- the code of the i-th row and those after it
+column-next : (l : List ℕ) (n i : ℕ) → i < n → column (n - i) (drop (i * 5) l) ≡ getD l (i * 5) 0 ∷ column (n - (i + 1)) (drop ((i + 1) * 5) l)
+column-next l n i h =
+    let e : n - i ≡ suc (n - (i + 1)) = omega arith in
+    let f : i * 5 + 0 ≡ i * 5 = omega arith in
+    let g : (i + 1) * 5 ≡ i * 5 + 5 = omega arith in
+    rw (e, getD-drop (i * 5) l 0 0, f, g, ← drop-drop 5 (i * 5) l)
 
 -- the first i of n rows do not have the code
 pub record Passed (l : List ℕ) (n code i : ℕ) : Type 0 where
@@ -32,22 +40,49 @@ module _ {l : List ℕ} {n code i : ℕ} (t : Passed l n code i) where
       rw (t .is, e) (omega (arith, t .most))
 
   module _ (h : i < n) where
-    one : n - i ≡ suc (n - (i + 1))
-    one = omega arith
-
-    at-i : getD (drop (i * 5) l) 0 0 ≡ getD l (i * 5) 0
-    at-i = let e : i * 5 + 0 ≡ i * 5 = omega arith in rw (getD-drop, e)
-
     pub find-found : getD l (i * 5) 0 ≡ code → i ≡ indexOf code (column n l)
-    find-found k = rw (t .is, one, at-i, eq-eqb _ code k) (omega arith)
+    find-found k = rw (t .is, column-next l n i h, eq-eqb _ code k) (omega arith)
 
     pub find-further : (getD l (i * 5) 0 ≡ code → ⊥) → Passed l n code (i + 1)
-    find-further k =
-        let f : (i + 1) * 5 ≡ i * 5 + 5 = omega arith in
-        record {
-          most = omega arith;
-          is = rw (t .is, one, at-i, ne-eqb _ code k, f, ← drop-drop 5 (i * 5) l) (omega arith);
-        }
+    find-further k = record { most = omega arith; is = rw (t .is, column-next l n i h, ne-eqb _ code k) (omega arith) }
+
+-- the first i rows hold the codes 1, 2, 3, ..
+pub record Led (l : List ℕ) (i : ℕ) : Type 0 where
+  pub most : i ≤ length l / 5
+  pub is : leadingFrom 1 (column (length l / 5) l) ≡ i + leadingFrom (i + 1) (column (length l / 5 - i) (drop (i * 5) l))
+
+pub led-begun : (l : List ℕ) → Led l 0
+led-begun l =
+    let e : length l / 5 - 0 ≡ length l / 5 = omega arith in
+    record { most = omega arith; is = rw e (sym (zero-add _)) }
+
+module _ {l : List ℕ} {i : ℕ} (t : Led l i) where
+  pub led-ended : length l / 5 ≤ i → length l / 5 ≡ leading l
+  unfolding leading
+  led-ended h =
+      let e : length l / 5 - i ≡ 0 = omega arith in
+      rw (t .is, e) (omega (arith, t .most))
+
+  module _ (h : i < length l / 5) where
+    pub led-stopped : (getD l (i * 5) 0 ≡ i + 1 → ⊥) → i ≡ leading l
+    unfolding leading
+    led-stopped k = rw (t .is, column-next l (length l / 5) i h, ne-eqb _ (i + 1) k) (omega arith)
+
+    pub led-further : getD l (i * 5) 0 ≡ i + 1 → Led l (i + 1)
+    led-further k = record { most = omega arith; is = rw (t .is, column-next l (length l / 5) i h, eq-eqb _ (i + 1) k, add-one (i + 1)) (omega arith) }
+
+-- a leading code is in its own row
+pub leading-index : (k c : ℕ) (l : List ℕ) → c < leadingFrom k l → indexOf (c + k) l ≡ c
+leading-index k c [] h = absurd (omega arith)
+leading-index k c (y ∷ ys) h = by (eqb y k) refl c h (λ c. leading-index (suc k) c ys)
+  where
+    by : (b : Bool) → eqb y k ≡ b → (c : ℕ) → c < cond b (suc (leadingFrom (suc k) ys)) 0
+        → ((c : ℕ) → c < leadingFrom (suc k) ys → indexOf (c + suc k) ys ≡ c) → indexOf (c + k) (y ∷ ys) ≡ c
+    by false e c h more = absurd (omega arith)
+    by true e zero h more = rw (eqb-true y k e, zero-add k, eq-eqb k k refl)
+    by true e (suc c) h more =
+        let f : suc c + k ≡ c + suc k = omega arith in
+        rw (f, ne-eqb y (c + suc k) (λ g. omega (arith, eqb-true y k e))) (ap suc (more c (omega arith)))
 
 pub length-column : (n : ℕ) (l : List ℕ) → length (column n l) ≡ n
 length-column zero l = refl

@@ -1,5 +1,5 @@
 -- A table that was laid out is found again, whichever row holds which abbreviation.
-use mathlib.Core.Bool.{Bool, true, false, _&&_}
+use mathlib.Core.Bool.{Bool, true, false, cond, _&&_}
 use mathlib.Core.Option.{Option, none, some, Option·map}
 use mathlib.Core.Path.{_≡_, refl, sym, ap, _∙_}
 use mathlib.Core.List.{List, [], _∷_, _++_, append-assoc, List·Permᴰ, List·Permᴰ·nil, List·Permᴰ·cons, List·Permᴰ·swap, List·Permᴰ·trans, Permᴰ·symm}
@@ -7,18 +7,18 @@ use mathlib.Core.Logic.{_⊎_, inl, inr, ⊎-elim}
 use Prim.Native.Nat.{ℕ, zero, suc, _+_, _-_, _*_, _/_, _≤_, _<_}
 use native.Mathlib.Omega.{arith}
 use native.Mathlib.Nat.{suc-add}
-use borrow.Author.Tests.{ne-eqb, eqb-true, eqb-false, lt-ltb, le-ltb, le-leb, leb-true}
+use borrow.Author.Tests.{ne-eqb, eqb-true, eqb-false, lt-ltb, le-ltb, le-leb, leb-true, ltb-true}
 use lib.Dec.{eqb, ltb, leb}
 use lib.ListN.{length, take, drop, getD, replicate, length-append}
 use lib.Seq.{getD-take, getD-drop, take-at, drop-at}
 use Rattle.reader.specs.Answer.{Answer, got, refused, andThen, Holds}
 use Rattle.reader.proofs.Answers.{cond-by}
-use Rattle.abbrev.specs.Lookup.{column, indexOf, specAt, specsFrom, fair, allFair, specificationAt, attributeAt, Found, rowAt, specsKept, keepsSizes, judgedRow, rowFound, lookup, declarationOf, declaredIn}
+use Rattle.abbrev.specs.Lookup.{column, indexOf, specAt, specsFrom, fair, allFair, specificationAt, attributeAt, Found, rowAt, specsKept, keepsSizes, judgedRow, rowFound, leading, lookup, directLookup, declarationOf, declaredIn}
 use Rattle.abbrev.specs.Rows.{specWords, allSpecs, Row, rowWords, rowsWords, rowsFrom, Laid, Left}
 use Rattle.abbrev.specs.Table.{Specification, Declaration, Limit, abbreviationsAt}
 use Rattle.abbrev.proofs.Attributes.{words-append}
 use Rattle.abbrev.proofs.Bounds.{In, Proper, Sound, in-rows, sound}
-use Rattle.abbrev.proofs.Columns.{drop-take, length-column}
+use Rattle.abbrev.proofs.Columns.{drop-take, length-column, leading-index}
 use Rattle.abbrev.proofs.Laying.{spec-words-length}
 
 in-perm : {A : Type 0} (a : A) {l m : List A} → List·Permᴰ l m → In a l → In a m
@@ -308,3 +308,19 @@ lookup-keeps most rows specs code =
     cond-by (Holds (Keeps most specs)) (ltb (indexOf code (column (length rows / 5) rows)) (length rows / 5)) _ (got none)
     (λ _. cond-by (Holds (Keeps most specs)) (keepsSizes most specs (rowAt rows (indexOf code (column (length rows / 5) rows)))) _ (refused 1) (λ h. h) (λ _. tt))
     (λ _. tt))
+
+-- where the first n rows hold the codes 1, 2, 3, .., the direct lookup answers as the lookup does
+pub direct-lookup : (most n : ℕ) (rows specs : List ℕ) (code : ℕ) → n ≤ leading rows → directLookup most n rows specs code ≡ lookup most rows specs code
+unfolding directLookup lookup leading
+direct-lookup most n rows specs code h = by (ltb 0 code && leb code n) refl
+  where
+    by : (b : Bool) → (ltb 0 code && leb code n) ≡ b → cond b (rowFound most rows specs (code - 1)) (lookup most rows specs code) ≡ lookup most rows specs code
+    by true e =
+        let t = both (ltb 0 code) (leb code n) e in
+        let p : 0 < code = ltb-true 0 code (t .0) in
+        let q : code ≤ n = leb-true code n (t .1) in
+        let f : code - 1 + 1 ≡ code = omega arith in
+        let g = leading-index 1 (code - 1) (column (length rows / 5) rows) (omega arith) in
+        let i : indexOf code (column (length rows / 5) rows) ≡ code - 1 = rw f at g in
+        rw (ne-eqb code 0 (λ z. omega arith), i)
+    by false e = refl

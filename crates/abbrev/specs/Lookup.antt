@@ -2,7 +2,7 @@
 use mathlib.Core.Bool.{Bool, true, false, cond, _&&_}
 use mathlib.Core.List.{List, [], _∷_}
 use mathlib.Core.Option.{Option, none, some, Option·map}
-use Prim.Native.Nat.{ℕ, zero, suc, _+_, _*_, _/_}
+use Prim.Native.Nat.{ℕ, zero, suc, _+_, _-_, _*_, _/_}
 use lib.Dec.{ltb, leb, eqb}
 use lib.IntN.{ℤ}
 use lib.ListN.{length, drop, getD}
@@ -19,6 +19,15 @@ column (suc n) l = getD l 0 0 ∷ column n (drop 5 l)
 abbrev pub indexOf : ℕ → List ℕ → ℕ
 indexOf x [] = 0
 indexOf x (y ∷ ys) = cond (eqb y x) 0 (suc (indexOf x ys))
+
+-- how many of the codes from k on stand one after another
+abbrev pub leadingFrom : ℕ → List ℕ → ℕ
+leadingFrom k [] = 0
+leadingFrom k (y ∷ ys) = cond (eqb y k) (suc (leadingFrom (suc k) ys)) 0
+
+-- how many leading rows hold the codes 1, 2, 3, ..
+unfoldable pub leading : List ℕ → ℕ
+leading rows = leadingFrom 1 (column (length rows / 5) rows)
 
 -- the specification that starts at a word
 abbrev pub specAt : List ℕ → ℕ → Specification
@@ -77,6 +86,11 @@ rowFound most rows specs i = cond (ltb i (length rows / 5)) (judgedRow most spec
 unfoldable pub lookup : ℕ → List ℕ → List ℕ → ℕ → Answer (Option Found)
 lookup most rows specs code =
     cond (eqb code 0) (got none) (rowFound most rows specs (indexOf code (column (length rows / 5) rows)))
+
+-- a code up to n is looked up in its own row, which is right where the first n rows hold 1, 2, 3, .. (`direct-lookup`); any other in the lowest
+unfoldable pub directLookup : ℕ → ℕ → List ℕ → List ℕ → ℕ → Answer (Option Found)
+directLookup most n rows specs code =
+    cond (ltb 0 code && leb code n) (rowFound most rows specs (code - 1)) (lookup most rows specs code)
 
 -- the declaration that a found row stands for
 abbrev pub declarationOf : List ℕ → Found → Declaration

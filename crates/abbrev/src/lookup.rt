@@ -4,7 +4,7 @@ ghost use mathlib.Core.Path.{_≡_};
 ghost use Prim.Native.Nat.{_+_, _*_, _/_, _≤_};
 ghost use lib.Dec.{eqb};
 ghost use lib.ListN.{length, drop};
-ghost use Rattle.abbrev.specs.Lookup.{specsFrom, allFair, specsKept, keepsSizes, judgedRow, rowFound, lookup, specificationAt, attributeAt, implicitConstOf};
+ghost use Rattle.abbrev.specs.Lookup.{specsFrom, allFair, specsKept, keepsSizes, judgedRow, rowFound, leading, lookup, directLookup, specificationAt, attributeAt, implicitConstOf};
 ghost use Rattle.abbrev.specs.Table.{entryLimit};
 ghost use Rattle.abbrev.specs.Views.{viewLookup, viewSpecified, viewConstant, foundOf, specificationOf};
 use super::rows::find;
@@ -133,6 +133,36 @@ pub fn get(rows: &[u64], specs: &[u64], code: u64) -> Lookup
     }
     let n = rows.len() / 5;
     let i = find(rows, n, code);
+    row(rows, specs, i)
+}
+
+// How many leading rows hold the codes 1, 2, 3, ..
+pub fn leading(rows: &[u64]) -> usize
+    ensures { λ r. ⌜ r ≡ leading (now (rows .entry)) ⌝ }
+{
+    let n = rows.len() / 5;
+    let mut i: usize = 0;
+    while i < n {
+        let code = (i + 1) as u64;
+        if rows[i * 5] != code {
+            return i;
+        }
+        i += 1;
+    }
+    n
+}
+
+// `get` where the first `n` rows are known to hold the codes 1, 2, 3, ..
+pub fn get_direct(rows: &[u64], specs: &[u64], n: usize, code: u64) -> Lookup
+    ensures { λ r. ⌜ viewLookup r ≡ directLookup (entryLimit .most) n (now (rows .entry)) (now (specs .entry)) code ⌝ }
+{
+    if code == 0 {
+        return Lookup::Absent;
+    }
+    if (n as u64) < code {
+        return get(rows, specs, code);
+    }
+    let i = (code - 1) as usize;
     row(rows, specs, i)
 }
 
