@@ -3,3 +3,4 @@ pub mod FormLaws
 pub mod ListLaws
 pub mod ReadLaws
 pub mod ValueLaws
+pub mod PrefixLaws

@@ -201,7 +201,7 @@ word-onward s at n e = holds-map (WordIn s at n) (λ v. Onward s at (v .next)) (
 uleb-onward : (s : List ℕ) (at w : ℕ) → Holds (λ v. Onward s at (v .next)) (ulebAt s at w)
 uleb-onward s at w = holds-map (λ v. Ends s at w (v .next)) (λ v. Onward s at (v .next)) (ulebAt s at w) (λ v y. record { from = omega (arith, y .above); within = y .within }) (uleb-ends s at w)
 
-layout-onward : (s : List ℕ) (c : Encoding) (e : RunTimeEndian) (l : Layout) (at : ℕ) → Holds (Onward s at) (pastLayout s c e l at)
+pub layout-onward : (s : List ℕ) (c : Encoding) (e : RunTimeEndian) (l : Layout) (at : ℕ) → Holds (Onward s at) (pastLayout s c e l at)
 unfolding pastLayout
 layout-onward s c e L.U8 at = skip-onward s at 1
 layout-onward s c e L.U16 at = skip-onward s at 2

@@ -8,3 +8,4 @@ pub mod Accepted
 pub mod LimitLaws
 pub mod FieldLaws
 pub mod Determined
+pub mod PrefixLaws
