@@ -40,7 +40,8 @@ pub(crate) fn clear(l: &mut [u64], from: usize)
     }
 }
 
-pub(crate) fn wipe(rows: &mut [u64], specs: &mut [u64])
+// No table: all words are zero.
+pub fn wipe(rows: &mut [u64], specs: &mut [u64])
     ensures { λ _. ⌜ Blank (now (rows .entry)) (now (specs .entry)) (now (rows .exit)) (now (specs .exit)) ⌝ }
 {
     clear(rows, 0);

@@ -16,7 +16,7 @@ use Rattle.reader.specs.declared.endianity.RunTimeEndian.{RunTimeEndian}
 use Rattle.reader.proofs.Answers.{then-then, then-got, holds-map}
 use Rattle.reader.proofs.FieldLaws.{skip-there}
 use Rattle.abbrev.specs.Lookup.{Found, specAt, specsFrom, fair, keepsSizes, declarationOf}
-use Rattle.abbrev.specs.Table.{Specification}
+use Rattle.abbrev.specs.Table.{Specification, entryLimit}
 use Rattle.abbrev.proofs.Lookups.{length-specs, specs-nth, spec-drop, fair-nth, kept}
 use Rattle.attribute.specs.Attributes.{keepsPlace, readAttributes, skipAttributes, filler, pad}
 use Rattle.attribute.specs.Read.{formAt, attributeAt, attributesAt}
@@ -217,8 +217,8 @@ place-within n start at h =
     let b = both (leb at n) (ltb (start + n) (2 ^ 63)) h in
     record { inside = leb-true _ _ (b .0); short = ltb-true _ _ (b .1) }
 
-pub sizes-listed : (specs : List ℕ) (f : Found) → keepsSizes 64 specs f ≡ true → Listed specs (f .first) (f .count)
-sizes-listed specs f h = let k = kept 64 specs f h in record { most = k .most-is; there = k .inside; fairs = k .fairs }
+pub sizes-listed : (specs : List ℕ) (f : Found) → keepsSizes (entryLimit .most) specs f ≡ true → Listed specs (f .first) (f .count)
+sizes-listed specs f h = let k = kept (entryLimit .most) specs f h in record { most = k .most-is; there = k .inside; fairs = k .fairs }
 
 -- one of the specifications
 pub record Specified (specs : List ℕ) (first i : ℕ) : Type 0 where

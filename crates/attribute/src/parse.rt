@@ -121,7 +121,7 @@ fn read_listed(
 ) -> Attributes
     requires { ⌜ Within (length (now bytes)) start at ⌝ }
     requires { ⌜ Listed (now specs) first count ⌝ }
-    ensures { λ r. ⌜ viewAttributes r ≡ stored 64 (attributesAt (now (bytes .entry)) start encoding endian (specsFrom count (drop (first * 3) (now (specs .entry)))) at) ⌝ }
+    ensures { λ r. ⌜ viewAttributes r ≡ stored (entryLimit .most) (attributesAt (now (bytes .entry)) start encoding endian (specsFrom count (drop (first * 3) (now (specs .entry)))) at) ⌝ }
 {
     let none = Attribute {
         name: 0,
@@ -169,7 +169,7 @@ pub fn read_attributes(
     abbreviation: Abbreviation,
     specs: &[u64],
 ) -> Attributes
-    ensures { λ r. ⌜ viewAttributes r ≡ stored 64 (readAttributes (entryLimit .most) (now (bytes .entry)) start encoding endian (now (specs .entry)) (foundOf abbreviation) at) ⌝ }
+    ensures { λ r. ⌜ viewAttributes r ≡ stored (entryLimit .most) (readAttributes (entryLimit .most) (now (bytes .entry)) start encoding endian (now (specs .entry)) (foundOf abbreviation) at) ⌝ }
 {
     if keeps_place(bytes.len(), start, at) {
         if abbreviation.keeps_sizes(specs) {

@@ -1,8 +1,9 @@
 -- Laws of depths: signed, and no further from 0 than a position.
+
 use mathlib.Core.Path.{_≡_}
 use Prim.Native.Nat.{zero, suc, _+_, _-_, _^_, _≤_, _<_}
 use native.Mathlib.Omega.{arith}
-use lib.IntN.{ℤ, pos, negsuc, _+ℤ_, _-ℤ_, natAbs, sucℤ, predℤ, +ℤ-one, -ℤ-one}
+use lib.IntN.{ℤ, pos, negsuc, natAbs, sucℤ, predℤ, +ℤ-one, -ℤ-one, _+ℤ_, _-ℤ_}
 use lib.Signed.{mag}
 use mir.Facts.{toZ-ofZ}
 use mir.Syntax.{w64}

@@ -1,18 +1,20 @@
 -- Laws of attributes looked for by name.
-use mathlib.Core.Bool.{Bool, true, false, cond, _&&_}
-use mathlib.Core.Path.{_≡_, refl, ap, _∙_}
-use mathlib.Core.List.{List, [], _∷_, map}
+use mathlib.Core.Bool.{Bool, true, false, cond, and-false, and-comm, _&&_}
+use mathlib.Core.Logic.{⊎-elim}
+use mathlib.Core.Path.{refl, ap, _≡_, _∙_}
+use mathlib.Core.List.{List, [], map, _∷_}
 use mathlib.Core.Option.{Option, none, some}
-use Prim.Native.Nat.{ℕ, zero, suc, _+_, _-_, _≤_, _<_}
+use Prim.Native.Nat.{ℕ, zero, suc, _+_, _≤_, _<_}
 use native.Mathlib.Omega.{arith}
 use native.Mathlib.Numerals.{add-one}
-use borrow.Author.Tests.{eq-eqb, ne-eqb, leb-false}
+use borrow.Author.Tests.{eq-eqb, ne-eqb, leb-false, le-leb, lt-leb}
 use lib.Dec.{eqb, leb, ltb}
 use lib.IntN.{ℤ, pos, negsuc, natAbs}
 use lib.Signed.{mag, leZ}
 use lib.ListN.{length, getD, take, drop, drop-of-length-le, length-take, length-map, List·getD-map}
 use lib.Seq.{drop-cons, getD-take}
 use Rattle.reader.specs.Answer.{ifSome}
+use Rattle.reader.proofs.Numbers.{lt-or-le}
 use Rattle.attribute.specs.Attributes.{filler}
 use Rattle.attribute.specs.Forms.{caseOf}
 use Rattle.attribute.specs.Value.{Attribute}
@@ -20,6 +22,7 @@ use Rattle.attribute.specs.Views.{viewAttribute}
 use Rattle.attribute.specs.declared.value.Attribute as declared-attribute
 use Rattle.attribute.proofs.ListLaws.{nothing}
 use Rattle.entries.specs.Entry.{Entry, named, attrOf, siblingOf, jumpOf}
+use Rattle.entries.specs.Read.{sameDepth}
 use Rattle.entries.specs.Views.{isSome, valueIn}
 
 -- the attributes that a count lets in
@@ -102,3 +105,28 @@ jump-without e next end h = ap (λ (b : Bool). cond b (ifSome (siblingOf e) none
 pub far-below : (z : ℤ) (n : ℕ) → leZ (pos 0) z ≡ false → ltb (mag z) n ≡ leb (natAbs z) n
 far-below (pos k) n h = absurd (omega (arith, leb-false 0 k h))
 far-below (negsuc k) n h = refl
+
+-- two depths are the same where neither is above the other
+leb-both : (m n : ℕ) → leb m n && leb n m ≡ eqb m n
+leb-both m n = ⊎-elim above (λ h. ⊎-elim (below h) (equal h) (lt-or-le m n)) (lt-or-le n m)
+  where
+    above : n < m → leb m n && leb n m ≡ eqb m n
+    above h = rw (lt-leb m n h, ne-eqb m n (λ e. omega (arith, e)))
+
+    below : m ≤ n → m < n → leb m n && leb n m ≡ eqb m n
+    below h k = rw (lt-leb n m k, and-false, ne-eqb m n (λ e. omega (arith, e)))
+
+    equal : m ≤ n → n ≤ m → leb m n && leb n m ≡ eqb m n
+    equal h k = let e : m ≡ n = omega arith in rw (le-leb m n h, le-leb n m k, eq-eqb m n e)
+
+same-both : (a b : ℤ) → leZ a b && leZ b a ≡ sameDepth a b
+same-both (pos m) (pos n) = leb-both m n
+same-both (pos m) (negsuc n) = refl
+same-both (negsuc m) (pos n) = refl
+same-both (negsuc m) (negsuc n) = and-comm (leb n m) (leb m n) ∙ leb-both m n
+
+pub same-by : (a b : ℤ) → leZ a b ≡ true → leZ b a ≡ sameDepth a b
+same-by a b h = rw h at (same-both a b)
+
+pub same-not : (a b : ℤ) → leZ a b ≡ false → false ≡ sameDepth a b
+same-not a b h = rw h at (same-both a b)

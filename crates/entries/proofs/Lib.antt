@@ -2,3 +2,8 @@
 pub mod DepthLaws
 pub mod EntryLaws
 pub mod RawLaws
+pub mod FlatLaws
+pub mod SeekLaws
+pub mod PassLaws
+pub mod CursorLaws
+pub mod OpenLaws

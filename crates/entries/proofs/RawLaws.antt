@@ -5,9 +5,9 @@ use mathlib.Core.List.{List}
 use mathlib.Core.Option.{Option, none, some}
 use Prim.Native.Nat.{ℕ, _+_, _-_, _^_, _≤_, _<_}
 use native.Mathlib.Omega.{arith}
-use borrow.Author.Tests.{leb-true, ltb-true, ne-eqb}
+use borrow.Author.Tests.{leb-true, ltb-true, le-leb, lt-ltb, ne-eqb}
 use lib.Dec.{eqb, leb, ltb}
-use lib.IntN.{ℤ, pos, _+ℤ_, natAbs}
+use lib.IntN.{ℤ, pos, natAbs, _+ℤ_}
 use lib.ListN.{length}
 use Rattle.reader.specs.Answer.{Answer, got, refused, andThen, Read, gives, Holds}
 use Rattle.reader.specs.Leb128.{ulebAt}
@@ -26,22 +26,19 @@ use Rattle.reader.specs.declared.endianity.RunTimeEndian.{RunTimeEndian}
 use Rattle.attribute.specs.Value.{Attribute}
 use Rattle.abbrev.proofs.Lookups.{Keeps, lookup-keeps}
 use Rattle.entries.specs.Entry.{Entry, entryOf}
-use Rattle.entries.specs.Steps.{Onward, tookEntry}
-use Rattle.entries.specs.Raw.{keepsRaw, Moved, Taken, taken, refusedEntry, rawEntry}
+use Rattle.entries.specs.Steps.{KeptRaw, Onward, tookEntry}
+use Rattle.entries.specs.Raw.{keepsRaw, Moved, Taken, taken, refusedEntry, rawEntry, Listed}
 use Rattle.entries.specs.Read.{known, abbreviationAt, raised, entryAfter, entryAt}
 use Rattle.entries.specs.declared.raw.EntriesRaw.{EntriesRaw}
-
--- a state that keeps 01's sizes
-pub record KeptRaw (count : ℕ) (w : EntriesRaw) : Type 0 where
-  pub inside : w .position ≤ count
-  pub short : w .start + count < 2 ^ 63
-  pub near : natAbs (w .depth) ≤ w .position
 
 pub raw-kept : (count : ℕ) (w : EntriesRaw) → keepsRaw count w ≡ true → KeptRaw count w
 raw-kept count w h =
     let a = both (keepsPlace count (w .start) (w .position)) (leb (natAbs (w .depth)) (w .position)) h in
     let b = both (leb (w .position) count) (ltb (w .start + count) (2 ^ 63)) (a .0) in
     record { inside = leb-true _ _ (b .0); short = ltb-true _ _ (b .1); near = leb-true _ _ (a .1) }
+
+pub raw-keeps : (count : ℕ) (w : EntriesRaw) → KeptRaw count w → keepsRaw count w ≡ true
+raw-keeps count w k = rw (le-leb _ _ (k .inside), lt-ltb _ _ (k .short), le-leb _ _ (k .near))
 
 known-in : (s : List ℕ) (at p : ℕ) (r : Answer (Option Found)) → at < p → p ≤ length s → Holds (λ v. (at < v .next) × (v .next ≤ length s)) (known r p)
 known-in s at p (got none) h l = tt
@@ -61,6 +58,9 @@ abbreviation-in most s rows specs at =
 -- so a depth can rise and fall once more
 pub near-enough : (count : ℕ) (w : EntriesRaw) {p : ℕ} → KeptRaw count w → w .position < p → p ≤ count → natAbs (w .depth) < 2 ^ 63 - 1
 near-enough count w k h l = omega (arith, k .near, k .short)
+
+pub uleb-near : (s : List ℕ) (w : EntriesRaw) {c p : ℕ} → KeptRaw (length s) w → ulebAt s (w .position) 64 ≡ gives c p → natAbs (w .depth) < 2 ^ 63 - 1
+uleb-near s w k e = let z = rw e at (uleb-ends s (w .position) 64) in near-enough (length s) w k (z .above) (z .within)
 
 -- the depth after an abbreviation, by its bit
 pub raised-is : (b : Bool) (d : ℤ) → raised (cond b 1 0) d ≡ cond b (d +ℤ pos 1) d
@@ -112,30 +112,37 @@ bit-back true = refl
 bit-back false = refl
 
 -- an entry whose values were stored, and one whose values refuse
-module _ (w : EntriesRaw) (f : Found) (r : Answer (Read (List Attribute))) where
-  pub stored-entry : {p : ℕ} → 0 < f .tag → stored 64 r .end ≡ got p → tookEntry w f (stored 64 r .attrs) p ≡ taken 64 w (raised (f .children) (w .depth)) (andThen r (λ v. gives (entryOf 64 (w .start + w .position) (w .depth) f (v .value)) (v .next)))
+module _ (most : ℕ) (w : EntriesRaw) (f : Found) (r : Answer (Read (List Attribute))) where
+  pub stored-entry : {p : ℕ} → 0 < f .tag → stored most r .end ≡ got p → tookEntry w f (stored most r .attrs) p ≡ taken most w (raised (f .children) (w .depth)) (andThen r (λ v. gives (entryOf most (w .start + w .position) (w .depth) f (v .value)) (v .next)))
   unfolding stored
   stored-entry {p} h e = go r e
     where
-      go : (x : Answer (Read (List Attribute))) → stored 64 x .end ≡ got p → tookEntry w f (stored 64 x .attrs) p ≡ taken 64 w (raised (f .children) (w .depth)) (andThen x (λ v. gives (entryOf 64 (w .start + w .position) (w .depth) f (v .value)) (v .next)))
+      go : (x : Answer (Read (List Attribute))) → stored most x .end ≡ got p → tookEntry w f (stored most x .attrs) p ≡ taken most w (raised (f .children) (w .depth)) (andThen x (λ v. gives (entryOf most (w .start + w .position) (w .depth) f (v .value)) (v .next)))
       go (got v) q = let z : v .next ≡ p = cc in rw (z, ne-eqb (f .tag) 0 (λ y. omega (arith, y)))
       go (refused n) q = let z : _≡_ {A = ℕ} 0 1 = cc in absurd (omega arith)
 
-  pub stored-refused : {k : ℕ} (d : ℤ) → stored 64 r .end ≡ refused k → refusedEntry 64 w k ≡ taken 64 w d (andThen r (λ v. gives (entryOf 64 (w .start + w .position) (w .depth) f (v .value)) (v .next)))
+  pub stored-refused : {k : ℕ} (d : ℤ) → stored most r .end ≡ refused k → refusedEntry most w k ≡ taken most w d (andThen r (λ v. gives (entryOf most (w .start + w .position) (w .depth) f (v .value)) (v .next)))
   unfolding stored
   stored-refused {k} d e = go r e
     where
-      go : (x : Answer (Read (List Attribute))) → stored 64 x .end ≡ refused k → refusedEntry 64 w k ≡ taken 64 w d (andThen x (λ v. gives (entryOf 64 (w .start + w .position) (w .depth) f (v .value)) (v .next)))
+      go : (x : Answer (Read (List Attribute))) → stored most x .end ≡ refused k → refusedEntry most w k ≡ taken most w d (andThen x (λ v. gives (entryOf most (w .start + w .position) (w .depth) f (v .value)) (v .next)))
       go (got v) q = let z : _≡_ {A = ℕ} 0 1 = cc in absurd (omega arith)
       go (refused n) q = let z : n ≡ k = cc in rw z
 
+-- the same values beside the same state
+pub same-listed : (x : Answer (Unit {0})) {l m : List Attribute} {v u : EntriesRaw} → l ≡ m → v ≡ u → _≡_ {A = Listed} (record { answer = x; attrs = l; raw = v }) (record { answer = x; attrs = m; raw = u })
+same-listed x {l} {m} {v} {u} p q = ap (λ (a : List Attribute). as-listed a v) p ∙ ap (λ (b : EntriesRaw). as-listed m b) q
+  where
+    as-listed : List Attribute → EntriesRaw → Listed
+    as-listed a b = record { answer = x; attrs = a; raw = b }
+
 -- values that were stored end further on
-pub stored-onward : (s : List ℕ) (at : ℕ) (w : EntriesRaw) (r : Answer (Read (List Attribute))) {p : ℕ} → KeptRaw (length s) w → w .position < at → Holds (λ v. Onwards s at (v .next)) r → stored 64 r .end ≡ got p → Onward w p
+pub stored-onward : (most : ℕ) (s : List ℕ) (at : ℕ) (w : EntriesRaw) (r : Answer (Read (List Attribute))) {p : ℕ} → KeptRaw (length s) w → w .position < at → Holds (λ v. Onwards s at (v .next)) r → stored most r .end ≡ got p → Onward w p
 unfolding stored
-stored-onward s at w (got v) {p} k h o e =
+stored-onward most s at w (got v) {p} k h o e =
     let z : v .next ≡ p = cc in
     goes-on (length s) w k (omega (arith, z, o .from)) (omega (arith, z, o .within))
-stored-onward s at w (refused n) k h o e = let z : _≡_ {A = ℕ} 0 1 = cc in absurd (omega arith)
+stored-onward most s at w (refused n) k h o e = let z : _≡_ {A = ℕ} 0 1 = cc in absurd (omega arith)
 
 -- a row that keeps the sizes has a tag
 pub tagged : (most : ℕ) (specs : List ℕ) (f : Found) → keepsSizes most specs f ≡ true → 0 < f .tag
@@ -144,43 +151,43 @@ tagged most specs f h =
     let b = both (ltb 0 (f .tag) && leb (f .tag) 65535) (leb (f .children) 1) a .0 in
     ltb-true _ _ (both (ltb 0 (f .tag)) (leb (f .tag) 65535) b .0)
 
-pub values-onward : (s : List ℕ) (start : ℕ) (c : Encoding) (e : RunTimeEndian) (xs : List Specification) (at : ℕ) (w : EntriesRaw) {p : ℕ} → KeptRaw (length s) w → w .position < at → at ≤ length s → stored 64 (attributesAt s start c e xs at) .end ≡ got p → Onward w p
-values-onward s start c e xs at w k h l q =
-    stored-onward s at w (attributesAt s start c e xs at) k h
+pub values-onward : (most : ℕ) (s : List ℕ) (start : ℕ) (c : Encoding) (e : RunTimeEndian) (xs : List Specification) (at : ℕ) (w : EntriesRaw) {p : ℕ} → KeptRaw (length s) w → w .position < at → at ≤ length s → stored most (attributesAt s start c e xs at) .end ≡ got p → Onward w p
+values-onward most s start c e xs at w k h l q =
+    stored-onward most s at w (attributesAt s start c e xs at) k h
     (holds-map (λ r. (pastValues s c e xs at ≡ got (r .next)) × Onwards s at (r .next)) (λ r. Onwards s at (r .next)) (attributesAt s start c e xs at) (λ r y. y .1) (attributes-past s start c e xs at l)) q
 
 -- ---- an entry of a found row
 
-module _ (w : EntriesRaw) (s rows specs : List ℕ) (h : keepsRaw (length s) w ≡ true) {f : Found} {p : ℕ} (a : abbreviationAt 64 s rows specs (w .position) ≡ gives (some f) p) where
+module _ (most : ℕ) (w : EntriesRaw) (s rows specs : List ℕ) (h : keepsRaw (length s) w ≡ true) {f : Found} {p : ℕ} (a : abbreviationAt most s rows specs (w .position) ≡ gives (some f) p) where
   k : KeptRaw (length s) w
   k = raw-kept (length s) w h
 
   further : (w .position < p) × (p ≤ length s)
-  further = rw a at (abbreviation-in 64 s rows specs (w .position))
+  further = rw a at (abbreviation-in most s rows specs (w .position))
 
   values : Answer (Read (List Attribute))
   values = attributesAt s (w .start) (w .encoding) (w .endian) (declarationOf specs f .specifications) p
 
-  sizes : keepsSizes 64 specs f ≡ true
-  sizes = found-keeps 64 s rows specs (w .position) a
+  sizes : keepsSizes most specs f ≡ true
+  sizes = found-keeps most s rows specs (w .position) a
 
-  module _ {x : Stored} (e : x ≡ stored 64 (readAttributes 64 s (w .start) (w .encoding) (w .endian) specs f p)) where
-    kept-values : x ≡ stored 64 values
+  module _ {x : Stored} (e : x ≡ stored most (readAttributes most s (w .start) (w .encoding) (w .endian) specs f p)) where
+    kept-values : x ≡ stored most values
     unfolding values
-    kept-values = e ∙ ap (stored 64) (read-kept 64 s (w .start) (w .encoding) (w .endian) specs f p (further .1) (k .short) sizes)
+    kept-values = e ∙ ap (stored most) (read-kept most s (w .start) (w .encoding) (w .endian) specs f p (further .1) (k .short) sizes)
 
-    ended : {m : Answer ℕ} → x .end ≡ m → stored 64 values .end ≡ m
+    ended : {m : Answer ℕ} → x .end ≡ m → stored most values .end ≡ m
     ended q = sym (ap (λ (y : Stored). y .end) kept-values) ∙ q
 
     pub entry-onward : {q : ℕ} → x .end ≡ got q → Onward w q
     unfolding values
-    entry-onward q = values-onward s (w .start) (w .encoding) (w .endian) (declarationOf specs f .specifications) p w k (further .0) (further .1) (ended q)
+    entry-onward q = values-onward most s (w .start) (w .encoding) (w .endian) (declarationOf specs f .specifications) p w k (further .0) (further .1) (ended q)
 
-    pub entry-read : {q : ℕ} → x .end ≡ got q → tookEntry w f (x .attrs) q ≡ rawEntry 64 w s rows specs
+    pub entry-read : {q : ℕ} → x .end ≡ got q → tookEntry w f (x .attrs) q ≡ rawEntry most w s rows specs
     unfolding rawEntry entryAt entryAfter values
     entry-read {q} r =
-        ap (λ (l : List Attribute). tookEntry w f l q) (ap (λ (y : Stored). y .attrs) kept-values) ∙ rw (h, a) (stored-entry w f values (tagged 64 specs f sizes) (ended r))
+        ap (λ (l : List Attribute). tookEntry w f l q) (ap (λ (y : Stored). y .attrs) kept-values) ∙ rw (h, a) (stored-entry most w f values (tagged most specs f sizes) (ended r))
 
-    pub entry-refused : {n : ℕ} → x .end ≡ refused n → refusedEntry 64 w n ≡ rawEntry 64 w s rows specs
+    pub entry-refused : {n : ℕ} → x .end ≡ refused n → refusedEntry most w n ≡ rawEntry most w s rows specs
     unfolding rawEntry entryAt entryAfter values
-    entry-refused r = rw (h, a) (stored-refused w f values _ (ended r))
+    entry-refused r = rw (h, a) (stored-refused most w f values _ (ended r))

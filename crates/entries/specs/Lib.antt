@@ -2,5 +2,9 @@
 pub mod Entry
 pub mod Read
 pub mod Raw
+pub mod Cursor
+pub mod Flat
+pub mod Open
 pub mod Steps
 pub mod Views
+pub mod Opened

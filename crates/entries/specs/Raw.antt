@@ -10,6 +10,9 @@ use Rattle.reader.specs.Answer.{Answer, got, refused, Read}
 use Rattle.reader.specs.declared.common.Encoding.{Encoding}
 use Rattle.reader.specs.declared.endianity.RunTimeEndian.{RunTimeEndian}
 use Rattle.abbrev.specs.Lookup.{Found}
+use Rattle.abbrev.specs.Table.{Specification}
+use Rattle.attribute.specs.Attributes.{readAttribute, readAttributes, skipAttributes, Stored, stored}
+use Rattle.attribute.specs.Value.{Attribute}
 use Rattle.entries.specs.Entry.{Entry, nullEntry, isNull}
 use Rattle.entries.specs.Read.{Source, abbreviationAt, depthAfter, entryAt, keepsState}
 use Rattle.entries.specs.declared.raw.EntriesRaw.{EntriesRaw}
@@ -81,3 +84,39 @@ unfoldable pub rawEntry : ℕ → EntriesRaw → List ℕ → List ℕ → List 
 rawEntry most w s rows specs =
     taken most w (depthAfter (abbreviationAt most s rows specs (w .position)) (w .depth))
     (judged (keepsRaw (length s) w) (entryAt most (sourceOf w) s rows specs (w .position) (w .depth)))
+
+-- gimli's read_attribute
+unfoldable pub rawAttribute : EntriesRaw → List ℕ → Specification → Moved Attribute
+rawAttribute w s x =
+    moves w (w .depth)
+    (judged (keepsRaw (length s) w) (readAttribute s (w .start) (w .encoding) (w .endian) x (w .position)))
+
+-- values in their places, and the state
+pub record Listed : Type 0 where
+  pub answer : Answer (Unit {0})
+  pub attrs : List Attribute
+  pub raw : EntriesRaw
+
+abbrev pub listed : EntriesRaw → Answer ℕ → List Attribute → Listed
+listed w (got p) l = record { answer = got tt; attrs = l; raw = movedTo w p (w .depth) }
+listed w (refused n) l = record { answer = refused n; attrs = l; raw = w }
+
+abbrev pub listedIn : EntriesRaw → Stored → Listed
+listedIn w x = listed w (x .end) (x .attrs)
+
+-- gimli's read_attributes, by a found row
+unfoldable pub rawAttributes : ℕ → EntriesRaw → List ℕ → List ℕ → Found → Listed
+rawAttributes most w s specs f =
+    listedIn w
+    (stored most
+    (judged (keepsRaw (length s) w) (readAttributes most s (w .start) (w .encoding) (w .endian) specs f (w .position))))
+
+abbrev pub skipped : EntriesRaw → Answer ℕ → Moved (Unit {0})
+skipped w (got p) = record { answer = got tt; raw = movedTo w p (w .depth) }
+skipped w (refused n) = record { answer = refused n; raw = w }
+
+-- gimli's skip_attributes
+unfoldable pub rawSkip : ℕ → EntriesRaw → List ℕ → List ℕ → Found → Moved (Unit {0})
+rawSkip most w s specs f =
+    skipped w
+    (judged (keepsRaw (length s) w) (skipAttributes most s (w .start) (w .encoding) (w .endian) specs f (w .position)))

@@ -1,10 +1,10 @@
 -- Entries read one after another, with their depths.
-use mathlib.Core.Bool.{Bool, cond, _&&_}
+use mathlib.Core.Bool.{Bool, false, cond, _&&_}
 use mathlib.Core.List.{List}
 use mathlib.Core.Option.{Option, none, some}
 use Prim.Native.Nat.{ℕ, _+_}
 use lib.Dec.{eqb, leb}
-use lib.IntN.{ℤ, pos, _+ℤ_, _-ℤ_, natAbs}
+use lib.IntN.{ℤ, pos, negsuc, natAbs, _+ℤ_, _-ℤ_}
 use Rattle.reader.specs.Answer.{Answer, got, refused, andThen, ifSome, Read, gives}
 use Rattle.reader.specs.Leb128.{ulebAt}
 use Rattle.reader.specs.declared.common.Encoding.{Encoding}
@@ -12,7 +12,7 @@ use Rattle.reader.specs.declared.endianity.RunTimeEndian.{RunTimeEndian}
 use Rattle.abbrev.specs.Lookup.{Found, lookup, declarationOf}
 use Rattle.attribute.specs.Attributes.{keepsPlace}
 use Rattle.attribute.specs.Read.{attributesAt}
-use Rattle.entries.specs.Entry.{Entry, nullEntry, entryOf}
+use Rattle.entries.specs.Entry.{Entry, nullEntry, entryOf, isNull}
 
 -- what a lookup says of a code that is not 0; 01, question 16
 abbrev pub known : Answer (Option Found) → ℕ → Answer (Read (Option Found))
@@ -32,6 +32,10 @@ raised children d = cond (eqb children 1) (d +ℤ pos 1) d
 abbrev pub depthAfter : Answer (Read (Option Found)) → ℤ → ℤ
 depthAfter (refused n) d = d
 depthAfter (got r) d = ifSome (r .value) (d -ℤ pos 1) (λ f. raised (f .children) d)
+
+-- the same from what was read
+abbrev pub afterEntry : Entry → ℤ
+afterEntry e = cond (isNull e) (e .depth -ℤ pos 1) (cond (e .children) (e .depth +ℤ pos 1) (e .depth))
 
 -- how values are read: the start of the bytes, the encoding and the order
 pub record Source : Type 0 where
@@ -55,3 +59,10 @@ entryAt most src s rows specs at d =
 -- 01's sizes of a state: its position, its start and its depth
 abbrev pub keepsState : ℕ → ℕ → ℕ → ℤ → Bool
 keepsState count start at d = keepsPlace count start at && leb (natAbs d) at
+
+-- whether two depths are the same
+abbrev pub sameDepth : ℤ → ℤ → Bool
+sameDepth (pos a) (pos b) = eqb a b
+sameDepth (pos a) (negsuc b) = false
+sameDepth (negsuc a) (pos b) = false
+sameDepth (negsuc a) (negsuc b) = eqb a b

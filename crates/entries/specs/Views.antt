@@ -10,7 +10,15 @@ use Rattle.attribute.specs.Value.{Attribute}
 use Rattle.attribute.specs.Views.{viewAttribute, viewValue}
 use Rattle.attribute.specs.declared.value.Value.{Value}
 use Rattle.entries.specs.Entry.{Entry}
-use Rattle.entries.specs.Raw.{Moved, Taken}
+use Rattle.entries.specs.Cursor.{Cursor, OpenedCursor, Current, Called}
+use Rattle.entries.specs.Open.{EntryAt, UnitAt}
+use Rattle.entries.specs.Raw.{Moved, Taken, Listed}
+use Rattle.entries.specs.declared.cursor.Current as declared-current
+use Rattle.entries.specs.declared.cursor.CursorNext.{CursorNext}
+use Rattle.entries.specs.declared.cursor.EntriesCursor.{EntriesCursor}
+use Rattle.entries.specs.declared.cursor.Next.{Next}
+use Rattle.entries.specs.declared.cursor.Next.the-variants as next
+use Rattle.entries.specs.declared.cursor.OpenedCursor as declared-opened
 use Rattle.entries.specs.declared.entry.Entry as declared-entry
 use Rattle.entries.specs.declared.entry.Named.{Named}
 use Rattle.entries.specs.declared.entry.Named.the-variants as named-attribute
@@ -21,10 +29,22 @@ use Rattle.entries.specs.declared.raw.Code.the-variants as code
 use Rattle.entries.specs.declared.raw.Coded.{Coded}
 use Rattle.entries.specs.declared.raw.Coded.the-variants as coded
 use Rattle.entries.specs.declared.raw.EntriesRaw.{EntriesRaw}
+use Rattle.entries.specs.declared.open.EntryAt as declared-entry-at
+use Rattle.entries.specs.declared.open.OpenedUnit.{OpenedUnit}
+use Rattle.entries.specs.declared.open.UnitAt as declared-unit-at
+use Rattle.entries.specs.declared.open.UnitAt.the-variants as unit-at
+use Rattle.unit.specs.declared.header.UnitHeader.{UnitHeader}
 use Rattle.entries.specs.declared.raw.Opened.{Opened}
 use Rattle.entries.specs.declared.raw.Opened.the-variants as opening
+use Rattle.entries.specs.declared.raw.Outcome.{Outcome}
+use Rattle.entries.specs.declared.raw.Outcome.the-variants as outcome
 use Rattle.entries.specs.declared.raw.RawAbbreviation.{RawAbbreviation}
+use Rattle.entries.specs.declared.raw.RawAttribute.{RawAttribute}
+use Rattle.entries.specs.declared.raw.RawAttributes.{RawAttributes}
 use Rattle.entries.specs.declared.raw.RawEntry.{RawEntry}
+use Rattle.entries.specs.declared.raw.RawSkipped.{RawSkipped}
+use Rattle.entries.specs.declared.raw.ReadAttribute.{ReadAttribute}
+use Rattle.entries.specs.declared.raw.ReadAttribute.the-variants as read-attribute
 use Rattle.entries.specs.declared.raw.Said.{Said}
 use Rattle.entries.specs.declared.raw.Said.the-variants as said
 
@@ -81,3 +101,48 @@ viewSaid (said.Refused e) = refused (numberOf e)
 
 abbrev pub viewRawEntry : RawEntry → Taken
 viewRawEntry r = record { answer = viewSaid (r .answer); entry = viewEntry (r .entry); raw = r .raw }
+
+abbrev pub viewReadAttribute : ReadAttribute → Answer Attribute
+viewReadAttribute (read-attribute.Got a) = got (viewAttribute a)
+viewReadAttribute (read-attribute.Refused e) = refused (numberOf e)
+
+abbrev pub viewRawAttribute : RawAttribute → Moved Attribute
+viewRawAttribute r = record { answer = viewReadAttribute (r .answer); raw = r .raw }
+
+abbrev pub viewOutcome : Outcome → Answer (Unit {0})
+viewOutcome outcome.Done = got tt
+viewOutcome (outcome.Refused e) = refused (numberOf e)
+
+abbrev pub viewRawAttributes : RawAttributes → Listed
+viewRawAttributes r = record { answer = viewOutcome (r .answer); attrs = map viewAttribute (r .attrs); raw = r .raw }
+
+abbrev pub viewRawSkipped : RawSkipped → Moved (Unit {0})
+viewRawSkipped r = record { answer = viewOutcome (r .answer); raw = r .raw }
+
+abbrev pub viewCursor : EntriesCursor → Cursor
+viewCursor c = record { input = c .input; entry = viewEntry (c .entry) }
+
+abbrev pub viewOpenedCursor : declared-opened.OpenedCursor → OpenedCursor
+viewOpenedCursor r = record { answer = viewOutcome (r .answer); cursor = viewCursor (r .cursor) }
+
+abbrev pub viewCurrent : declared-current.Current → Current
+viewCurrent r = record { isThere = r .«is_entry»; entry = viewEntry (r .entry) }
+
+-- whether something was reached
+abbrev pub viewNext : Next → Answer Bool
+viewNext next.Held = got true
+viewNext next.NoMore = got false
+viewNext (next.Refused e) = refused (numberOf e)
+
+abbrev pub viewCursorNext : CursorNext → Called
+viewCursorNext r = record { answer = viewNext (r .answer); cursor = viewCursor (r .cursor) }
+
+abbrev pub viewEntryAt : declared-entry-at.EntryAt → EntryAt
+viewEntryAt r = record { answer = viewOutcome (r .answer); entry = viewEntry (r .entry) }
+
+abbrev pub viewUnitAt : declared-unit-at.UnitAt → Answer UnitHeader
+viewUnitAt (unit-at.Got h) = got h
+viewUnitAt (unit-at.Refused e) = refused (numberOf e)
+
+abbrev pub viewOpenedUnit : OpenedUnit → UnitAt
+viewOpenedUnit r = record { answer = viewUnitAt (r .answer); cursor = viewCursor (r .cursor) }

@@ -6,6 +6,7 @@ ghost use mathlib.Core.Path.{_≡_};
 ghost use lib.Dec.{ltb};
 ghost use lib.IntN.{pos};
 ghost use lib.ListN.{getD};
+ghost use Rattle.abbrev.specs.Table.{entryLimit};
 ghost use Rattle.attribute.specs.Attributes.{filler};
 ghost use Rattle.attribute.specs.Views.{viewNumber};
 ghost use Rattle.entries.specs.Entry.{nullEntry, isNull, attrOf, siblingOf, jumpOf};
@@ -42,7 +43,7 @@ const SIBLING: u16 = 1;
 impl Entry {
     // A null at offset and depth 0.
     pub fn null() -> Entry
-        ensures { λ r. ⌜ viewEntry r ≡ nullEntry 64 0 (pos 0) ⌝ }
+        ensures { λ r. ⌜ viewEntry r ≡ nullEntry (entryLimit .most) 0 (pos 0) ⌝ }
     {
         null_at(0, 0)
     }
@@ -55,7 +56,7 @@ impl Entry {
 
     // Where the first attribute of a name is, 64 where none is.
     fn place_of(self, name: u16) -> usize
-        ensures { λ r. ⌜ attrOf name (viewEntry self) ≡ cond (ltb r 64) (some (getD (viewEntry self .attrs) r filler)) none ⌝ }
+        ensures { λ r. ⌜ attrOf name (viewEntry self) ≡ cond (ltb r (entryLimit .most)) (some (getD (viewEntry self .attrs) r filler)) none ⌝ }
     {
         let attrs = self.attrs;
         let count = self.count;
@@ -151,7 +152,7 @@ impl Entry {
 }
 
 pub(crate) fn null_at(offset: usize, depth: i64) -> Entry
-    ensures { λ r. ⌜ viewEntry r ≡ nullEntry 64 offset depth ⌝ }
+    ensures { λ r. ⌜ viewEntry r ≡ nullEntry (entryLimit .most) offset depth ⌝ }
 {
     let none = Attribute {
         name: 0,

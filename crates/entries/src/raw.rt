@@ -3,28 +3,34 @@
 ghost use mathlib.Core.Bool.{cond};
 ghost use mathlib.Core.List.{map};
 ghost use mathlib.Core.Path.{_≡_};
-ghost use Prim.Native.Nat.{_+_, _-_, _^_, _<_};
+ghost use Prim.Native.Nat.{_+_, _-_, _^_, _≤_, _<_};
 ghost use lib.Dec.{leb};
 ghost use lib.IntN.{pos, _+ℤ_, _-ℤ_, natAbs};
 ghost use lib.ListN.{length};
 ghost use Rattle.reader.specs.Answer.{gives};
 ghost use Rattle.reader.specs.Errors.{numberOf};
 ghost use Rattle.reader.specs.Views.{viewPlace};
+ghost use Rattle.abbrev.specs.Lookup.{leading};
 ghost use Rattle.abbrev.specs.Table.{entryLimit};
-ghost use Rattle.abbrev.specs.Views.{foundOf};
+ghost use Rattle.abbrev.specs.Views.{foundOf, specificationOf};
 ghost use Rattle.attribute.specs.Views.{viewAttribute};
+ghost use Rattle.entries.specs.Cursor.{depthPast};
 ghost use Rattle.entries.specs.Entry.{nullEntry};
-ghost use Rattle.entries.specs.Raw.{keepsRaw, movedTo, opened, emptyRaw, offsetOf, rawAbbreviation, refusedEntry, taken, rawEntry};
+ghost use Rattle.entries.specs.Raw.{keepsRaw, movedTo, opened, emptyRaw, offsetOf, rawAbbreviation, refusedEntry, taken, rawEntry, rawAttribute, rawAttributes, rawSkip};
 ghost use Rattle.entries.specs.Read.{abbreviationAt};
-ghost use Rattle.entries.specs.Steps.{Onward, tookEntry};
-ghost use Rattle.entries.specs.Views.{viewOpened, viewCode, viewRawAbbreviation, viewRawEntry};
+ghost use Rattle.entries.specs.Steps.{KeptRaw, Onward, tookEntry};
+ghost use Rattle.entries.specs.Views.{viewOpened, viewCode, viewRawAbbreviation, viewRawEntry, viewRawAttribute, viewRawAttributes, viewRawSkipped};
 use super::entry::Entry;
 use super::entry::null_at;
 use abbrev::lookup::Abbreviation;
+use abbrev::lookup::AttributeSpecification;
 use abbrev::lookup::Lookup;
-use abbrev::lookup::get;
+use abbrev::lookup::get_direct;
+use attribute::parse::Parsed;
 use attribute::parse::keeps_place;
+use attribute::parse::parse_attribute;
 use attribute::parse::read_attributes;
+use attribute::skip::skip_attributes;
 use attribute::value::Attribute;
 use reader::answer::Place;
 use reader::answer::Word;
@@ -67,6 +73,35 @@ pub struct RawAbbreviation {
     pub raw: EntriesRaw,
 }
 
+// What `read_attribute` says.
+pub enum ReadAttribute {
+    Got(Attribute),
+    Refused(Error),
+}
+
+pub struct RawAttribute {
+    pub answer: ReadAttribute,
+    pub raw: EntriesRaw,
+}
+
+// What is said where the value stands beside it.
+pub enum Outcome {
+    Done,
+    Refused(Error),
+}
+
+// Places that hold no value hold one fixed attribute.
+pub struct RawAttributes {
+    pub answer: Outcome,
+    pub attrs: [Attribute; 64],
+    pub raw: EntriesRaw,
+}
+
+pub struct RawSkipped {
+    pub answer: Outcome,
+    pub raw: EntriesRaw,
+}
+
 // What `read_entry` says of the entry beside it.
 pub enum Said {
     Entry,
@@ -82,7 +117,7 @@ pub struct RawEntry {
 }
 
 // Whether a depth is no further from 0 than a position.
-fn keeps_depth(depth: i64, position: usize) -> bool
+pub(crate) fn keeps_depth(depth: i64, position: usize) -> bool
     ensures { λ r. ⌜ r ≡ leb (natAbs depth) position ⌝ }
 {
     if 0 <= depth {
@@ -91,8 +126,9 @@ fn keeps_depth(depth: i64, position: usize) -> bool
     ((-1 - depth) as usize) < position
 }
 
-// What stands at a place that has a code.
-fn code_at(bytes: &[u8], rows: &[u64], specs: &[u64], at: usize) -> Code
+// What stands at a place that has a code. The first `n` rows hold the codes 1, 2, 3, ..
+pub(crate) fn code_direct(bytes: &[u8], rows: &[u64], specs: &[u64], n: usize, at: usize) -> Code
+    requires { ⌜ n ≤ leading (now rows) ⌝ }
     ensures { λ r. ⌜ viewCode r ≡ abbreviationAt (entryLimit .most) (now (bytes .entry)) (now (rows .entry)) (now (specs .entry)) at ⌝ }
 {
     match read_uleb128(bytes, at) {
@@ -100,7 +136,7 @@ fn code_at(bytes: &[u8], rows: &[u64], specs: &[u64], at: usize) -> Code
             if code == 0 {
                 return Code::Null(next);
             }
-            match get(rows, specs, code) {
+            match get_direct(rows, specs, n, code) {
                 Lookup::Found(abbreviation) => Code::Found(abbreviation, next),
                 Lookup::Absent => Code::Refused(Error::InvalidAbbreviationCode),
                 Lookup::Refused(e) => Code::Refused(e),
@@ -110,8 +146,15 @@ fn code_at(bytes: &[u8], rows: &[u64], specs: &[u64], at: usize) -> Code
     }
 }
 
+// The same by the lowest row, whatever the rows hold.
+fn code_at(bytes: &[u8], rows: &[u64], specs: &[u64], at: usize) -> Code
+    ensures { λ r. ⌜ viewCode r ≡ abbreviationAt (entryLimit .most) (now (bytes .entry)) (now (rows .entry)) (now (specs .entry)) at ⌝ }
+{
+    code_direct(bytes, rows, specs, 0, at)
+}
+
 // The state at another place and depth.
-fn moved(raw: EntriesRaw, position: usize, depth: i64) -> EntriesRaw
+pub(crate) fn moved(raw: EntriesRaw, position: usize, depth: i64) -> EntriesRaw
     ensures { λ r. ⌜ r ≡ movedTo raw position depth ⌝ }
 {
     let encoding = raw.encoding;
@@ -125,8 +168,23 @@ fn moved(raw: EntriesRaw, position: usize, depth: i64) -> EntriesRaw
     }
 }
 
+// The state past a value.
+fn past_value(raw: EntriesRaw, position: usize) -> EntriesRaw
+    ensures { λ r. ⌜ r ≡ movedTo raw position (raw .depth) ⌝ }
+{
+    let encoding = raw.encoding;
+    let endian = raw.endian;
+    EntriesRaw {
+        start: raw.start,
+        position,
+        depth: raw.depth,
+        encoding,
+        endian,
+    }
+}
+
 // The depth after an entry.
-fn depth_after(depth: i64, has_children: bool) -> i64
+pub(crate) fn depth_after(depth: i64, has_children: bool) -> i64
     requires { ⌜ natAbs depth < 2 ^ 63 - 1 ⌝ }
     ensures { λ r. ⌜ r ≡ cond «has_children» (depth +ℤ pos 1) depth ⌝ }
 {
@@ -134,7 +192,7 @@ fn depth_after(depth: i64, has_children: bool) -> i64
 }
 
 // The depth after a null.
-fn depth_below(depth: i64) -> i64
+pub(crate) fn depth_below(depth: i64) -> i64
     requires { ⌜ natAbs depth < 2 ^ 63 - 1 ⌝ }
     ensures { λ r. ⌜ r ≡ depth -ℤ pos 1 ⌝ }
 {
@@ -142,7 +200,7 @@ fn depth_below(depth: i64) -> i64
 }
 
 // Whether a state keeps document 01's sizes over so many bytes.
-fn keeps_raw(count: usize, raw: EntriesRaw) -> bool
+pub(crate) fn keeps_raw(count: usize, raw: EntriesRaw) -> bool
     ensures { λ r. ⌜ r ≡ keepsRaw count raw ⌝ }
 {
     if keeps_place(count, raw.start, raw.position) {
@@ -151,9 +209,22 @@ fn keeps_raw(count: usize, raw: EntriesRaw) -> bool
     false
 }
 
+// The depth after the code that is read next, whatever follows it.
+pub(crate) fn depth_at(raw: EntriesRaw, bytes: &[u8], rows: &[u64], specs: &[u64]) -> i64
+    requires { ⌜ KeptRaw (length (now bytes)) raw ⌝ }
+    ensures { λ r. ⌜ r ≡ depthPast (entryLimit .most) (now (bytes .entry)) (now (rows .entry)) (now (specs .entry)) raw ⌝ }
+{
+    let depth = raw.depth;
+    match code_at(bytes, rows, specs, raw.position) {
+        Code::Found(abbreviation, _) => depth_after(depth, abbreviation.has_children),
+        Code::Null(_) => depth_below(depth),
+        Code::Refused(_) => depth,
+    }
+}
+
 // Refused: the state is kept.
 fn refuse(raw: EntriesRaw, error: Error) -> RawEntry
-    ensures { λ r. ⌜ viewRawEntry r ≡ refusedEntry 64 raw (numberOf error) ⌝ }
+    ensures { λ r. ⌜ viewRawEntry r ≡ refusedEntry (entryLimit .most) raw (numberOf error) ⌝ }
 {
     RawEntry {
         answer: Said::Refused(error),
@@ -165,12 +236,12 @@ fn refuse(raw: EntriesRaw, error: Error) -> RawEntry
 // A null at the state's place.
 fn take_null(raw: EntriesRaw, next: usize) -> RawEntry
     requires { ⌜ Onward raw next ⌝ }
-    ensures { λ r. ⌜ viewRawEntry r ≡ taken 64 raw (raw .depth -ℤ pos 1) (gives (nullEntry 64 (raw .start + raw .position) (raw .depth)) next) ⌝ }
+    ensures { λ r. ⌜ viewRawEntry r ≡ taken (entryLimit .most) raw (raw .depth -ℤ pos 1) (gives (nullEntry (entryLimit .most) (raw .start + raw .position) (raw .depth)) next) ⌝ }
 {
     let depth = raw.depth;
     let offset = raw.start + raw.position;
-    let entry = null_at(offset, depth);
     let below = depth_below(depth);
+    let entry = null_at(offset, depth);
     let after = moved(raw, next, below);
     RawEntry {
         answer: Said::Null,
@@ -214,20 +285,16 @@ impl EntriesRaw {
     pub fn new(bytes: &[u8], start: usize, encoding: Encoding, endian: RunTimeEndian) -> Opened
         ensures { λ r. ⌜ viewOpened r ≡ opened (length (now (bytes .entry))) start encoding endian ⌝ }
     {
-        let count = bytes.len();
-        if 0x7fff_ffff_ffff_ffff < count {
-            return Opened::Refused(Error::SizeLimit);
+        if keeps_place(bytes.len(), start, 0) {
+            return Opened::Got(EntriesRaw {
+                start,
+                position: 0,
+                depth: 0,
+                encoding,
+                endian,
+            });
         }
-        if 0x7fff_ffff_ffff_ffff - count < start {
-            return Opened::Refused(Error::SizeLimit);
-        }
-        Opened::Got(EntriesRaw {
-            start,
-            position: 0,
-            depth: 0,
-            encoding,
-            endian,
-        })
+        Opened::Refused(Error::SizeLimit)
     }
 
     pub fn is_empty(self, bytes: &[u8]) -> bool
@@ -290,6 +357,115 @@ impl EntriesRaw {
         }
         RawAbbreviation {
             answer: Coded::Refused(Error::SizeLimit),
+            raw: self,
+        }
+    }
+
+    // gimli's `read_attribute`.
+    pub fn read_attribute(self, bytes: &[u8], spec: AttributeSpecification) -> RawAttribute
+        ensures { λ r. ⌜ viewRawAttribute r ≡ rawAttribute self (now (bytes .entry)) (specificationOf spec) ⌝ }
+    {
+        if keeps_raw(bytes.len(), self) {
+            let encoding = self.encoding;
+            let endian = self.endian;
+            match parse_attribute(bytes, self.start, self.position, encoding, endian, spec) {
+                Parsed::Got(attribute, next) => {
+                    let raw = past_value(self, next);
+                    return RawAttribute {
+                        answer: ReadAttribute::Got(attribute),
+                        raw,
+                    };
+                }
+                Parsed::Refused(e) => {
+                    return RawAttribute {
+                        answer: ReadAttribute::Refused(e),
+                        raw: self,
+                    };
+                }
+            }
+        }
+        RawAttribute {
+            answer: ReadAttribute::Refused(Error::SizeLimit),
+            raw: self,
+        }
+    }
+
+    // gimli's `read_attributes`, of an abbreviation.
+    pub fn read_attributes(
+        self,
+        bytes: &[u8],
+        abbreviation: Abbreviation,
+        specs: &[u64],
+    ) -> RawAttributes
+        ensures { λ r. ⌜ viewRawAttributes r ≡ rawAttributes (entryLimit .most) self (now (bytes .entry)) (now (specs .entry)) (foundOf abbreviation) ⌝ }
+    {
+        if keeps_raw(bytes.len(), self) {
+            let start = self.start;
+            let at = self.position;
+            let encoding = self.encoding;
+            let endian = self.endian;
+            let read = read_attributes(bytes, start, at, encoding, endian, abbreviation, specs);
+            let end = read.end;
+            let attrs = read.attrs;
+            match end {
+                Place::At(next) => {
+                    let raw = past_value(self, next);
+                    return RawAttributes {
+                        answer: Outcome::Done,
+                        attrs,
+                        raw,
+                    };
+                }
+                Place::Refused(e) => {
+                    return RawAttributes {
+                        answer: Outcome::Refused(e),
+                        attrs,
+                        raw: self,
+                    };
+                }
+            }
+        }
+        let none = null_at(0, 0);
+        let attrs = none.attrs;
+        RawAttributes {
+            answer: Outcome::Refused(Error::SizeLimit),
+            attrs,
+            raw: self,
+        }
+    }
+
+    // gimli's `skip_attributes`.
+    pub fn skip_attributes(
+        self,
+        bytes: &[u8],
+        abbreviation: Abbreviation,
+        specs: &[u64],
+    ) -> RawSkipped
+        ensures { λ r. ⌜ viewRawSkipped r ≡ rawSkip (entryLimit .most) self (now (bytes .entry)) (now (specs .entry)) (foundOf abbreviation) ⌝ }
+    {
+        if keeps_raw(bytes.len(), self) {
+            let start = self.start;
+            let at = self.position;
+            let encoding = self.encoding;
+            let endian = self.endian;
+            match skip_attributes(bytes, start, at, encoding, endian, abbreviation, specs) {
+                Place::At(next) => {
+                    let raw = past_value(self, next);
+                    return RawSkipped {
+                        answer: Outcome::Done,
+                        raw,
+                    };
+                }
+                Place::Refused(e) => {
+                    return RawSkipped {
+                        answer: Outcome::Refused(e),
+                        raw: self,
+                    };
+                }
+            }
+        }
+        RawSkipped {
+            answer: Outcome::Refused(Error::SizeLimit),
             raw: self,
         }
     }

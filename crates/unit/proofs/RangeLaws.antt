@@ -1,7 +1,7 @@
 -- Laws of parts of a unit.
-use mathlib.Core.Bool.{Bool, true, false, cond, and-false}
+use mathlib.Core.Bool.{cond, and-false, _&&_}
 use mathlib.Core.Logic.{⊎-elim}
-use mathlib.Core.Path.{_≡_, refl, sym, ap, _∙_}
+use mathlib.Core.Path.{refl, sym, ap, _≡_, _∙_}
 use mathlib.Core.List.{List}
 use Prim.Native.Nat.{ℕ, _+_, _-_, _≤_, _<_}
 use native.Mathlib.Omega.{arith}
@@ -9,9 +9,10 @@ use borrow.Author.Tests.{le-leb, lt-leb}
 use lib.Dec.{leb}
 use lib.ListN.{length, take, drop}
 use Rattle.reader.specs.Answer.{Answer, got, refused}
+use Rattle.reader.proofs.Answers.{cond-by}
 use Rattle.reader.proofs.Numbers.{lt-or-le}
-use Rattle.unit.specs.Header.{unitEnd, inBounds}
-use Rattle.unit.specs.Range.{part, unitBytes, rangeOf, rangeFrom, rangeTo}
+use Rattle.unit.specs.Header.{sizeOfHeader, unitEnd, inBounds}
+use Rattle.unit.specs.Range.{part, Handed, entriesBuf, rangeFrom}
 use Rattle.unit.specs.declared.header.UnitHeader.{UnitHeader}
 
 module _ (s : List ℕ) (a b : ℕ) where
@@ -51,3 +52,29 @@ end-most b n = ⊎-elim
     (λ k. rw (lt-leb b n k) (omega arith))
     (λ k. rw (le-leb b n k) (omega arith))
     (lt-or-le n b)
+
+-- parts refuse with 19 alone
+abbrev pub Or19 : Answer (List ℕ) → Type 0
+Or19 (got s) = Unit {0}
+Or19 (refused n) = n ≡ 19
+
+part-19 : (s : List ℕ) (a b : ℕ) → Or19 (part s a b)
+unfolding part
+part-19 s a b = cond-by Or19 (leb a b && leb b (length s)) _ _ (λ _. tt) (λ _. refl)
+
+pub buf-19 : (h : UnitHeader) (u : List ℕ) → Or19 (entriesBuf h u)
+unfolding entriesBuf
+buf-19 h u = part-19 u (sizeOfHeader h) (unitEnd h)
+
+pub from-19 : (h : UnitHeader) (u : List ℕ) (a : ℕ) → Or19 (rangeFrom h u a)
+unfolding rangeFrom
+from-19 h u a = cond-by Or19 (inBounds h a) _ _ (λ _. part-19 u a (unitEnd h)) (λ _. refl)
+
+-- so the number beside a part is 0 where it was got
+pub handed-got : (d : Answer (List ℕ)) {r : List ℕ} {n : ℕ} → Or19 d → Handed d r n → n ≡ 0 → d ≡ got r
+handed-got (got s) o h z = ap got (sym (h .part-is))
+handed-got (refused m) o h z = absurd (omega (arith, o, h .refusal-is, z))
+
+pub handed-none : (d : Answer (List ℕ)) {r : List ℕ} {n : ℕ} → Or19 d → Handed d r n → (n ≡ 0 → ⊥) → d ≡ refused 19
+handed-none (got s) o h z = absurd (z (h .refusal-is))
+handed-none (refused m) o h z = ap refused o

@@ -30,6 +30,10 @@ pub record Handed (d : Answer (List ℕ)) (r : List ℕ) (refusal : ℕ) : Type 
 unfoldable pub unitBytes : UnitHeader → List ℕ → Answer (List ℕ)
 unitBytes h s = part s (h .offset) (h .offset + unitEnd h)
 
+-- the bytes of the entries, out of the unit's own bytes: all that follow the header
+unfoldable pub entriesBuf : UnitHeader → List ℕ → Answer (List ℕ)
+entriesBuf h u = part u (sizeOfHeader h) (unitEnd h)
+
 -- parts of the unit's own bytes, by offsets in the unit; 01: from the header's size up to, not including, the unit's end
 unfoldable pub rangeOf : UnitHeader → List ℕ → ℕ → ℕ → Answer (List ℕ)
 rangeOf h u a b = cond (inBounds h a && inBounds h b) (part u a b) (refused 19)

@@ -7,7 +7,7 @@ ghost use Prim.Native.Nat.{_+_, _^_, _<_};
 ghost use lib.Dec.{leb};
 ghost use Rattle.reader.specs.Answer.{refused};
 ghost use Rattle.unit.specs.Header.{unitEnd};
-ghost use Rattle.unit.specs.Range.{Handed, part, unitBytes, rangeOf, rangeFrom, rangeTo};
+ghost use Rattle.unit.specs.Range.{Handed, part, unitBytes, entriesBuf, rangeOf, rangeFrom, rangeTo};
 use super::header::UnitHeader;
 
 // Refused.
@@ -62,6 +62,15 @@ impl UnitHeader {
         }
         let end = offset + end_within(self, section.len() - offset);
         part(section, offset, end, refusal)
+    }
+
+    // gimli's `entries_buf`, out of the unit's own bytes: empty where the header is the whole unit.
+    pub fn entries_buf<'a, 'b>(self, unit: &'a [u8], refusal: &'b mut u64) -> &'a [u8]
+        ensures { λ r. ⌜ Handed (entriesBuf self (now (unit .entry))) (now r) (now (refusal .exit)) ⌝ }
+    {
+        let start = self.size_of_header();
+        let end = end_within(self, unit.len());
+        part(unit, start, end, refusal)
     }
 
     // The entries from `start` up to `end`, offsets in the unit, out of the unit's own bytes.

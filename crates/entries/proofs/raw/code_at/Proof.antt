@@ -1,28 +1,12 @@
-use Rattle.entries.specs.Read.{abbreviationAt}
-use borrow.Author.Needs.{needs}
-use borrow.Author.Tests.{eq-eqb, ne-eqb}
+use native.Mathlib.Omega.{arith}
 use Rattle.entries.proofs.raw.code_at.Statement.{statement}
 use Rattle.entries.proofs.raw.code_at.Tie as tie
 
 pub code-at-spec : {M : Type 1} → statement M
-unfolding abbreviationAt
 code-at-spec =
     tie.close
     (tie.spec
-    (λ c κs. search needs)
-    (λ c. search needs)
+    -- code-direct-requires
+    (λ c κs. omega arith)
     -- returns
-    (λ c. rw (← c .before .before .before .before .read-uleb128 .ensures, c .before .before .code .given .1, eq-eqb _ 0 (c .if1 .taken)))
-    (λ c κs. search needs)
-    (λ c. search needs)
-    (λ c. search needs)
-    (λ c. search needs)
-    (λ c. search needs)
-    -- returns-2
-    (λ c. rw (← c .before .before .before .before .before .before .before .before .read-uleb128 .ensures, c .before .before .before .before .before .before .code .given .1, ne-eqb _ 0 (c .before .before .before .before .if1 .left), ← c .before .before .before .get .ensures, c .before .abbreviation .given .1))
-    -- returns-3
-    (λ c. rw (← c .before .before .before .before .before .before .before .read-uleb128 .ensures, c .before .before .before .before .before .code .given .1, ne-eqb _ 0 (c .before .before .before .if1 .left), ← c .before .before .get .ensures, c .enum-told .given .1))
-    -- returns-4
-    (λ c. rw (← c .before .before .before .before .before .before .before .before .read-uleb128 .ensures, c .before .before .before .before .before .before .code .given .1, ne-eqb _ 0 (c .before .before .before .before .if1 .left), ← c .before .before .before .get .ensures, c .before .e .given .1))
-    -- returns-5
-    (λ c. rw (← c .before .before .before .read-uleb128 .ensures, c .before .e2 .given .1)))
+    (λ c. c .code-direct .ensures))

@@ -1,7 +1,7 @@
 use Rattle.entries.proofs.RawLaws.{onward-near, same-taken, raised-is, bit-back}
 use Rattle.entries.specs.Raw.{movedTo}
 use borrow.Author.Needs.{needs}
-use mathlib.Core.Path.{_≡_, sym, ap, _∙_}
+use mathlib.Core.Path.{sym, ap, _≡_, _∙_}
 use mir.Facts.{toZ-ofZ}
 use mir.Syntax.{w64}
 use mir.Val.{toZ, ofZ}

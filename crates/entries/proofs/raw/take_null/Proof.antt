@@ -1,7 +1,7 @@
 use Rattle.entries.proofs.RawLaws.{onward-near, same-taken}
 use Rattle.entries.specs.Raw.{movedTo}
 use borrow.Author.Needs.{needs}
-use mathlib.Core.Path.{_≡_, sym, ap, _∙_}
+use mathlib.Core.Path.{ap, _≡_, _∙_}
 use mir.Facts.{toZ-ofZ}
 use mir.Syntax.{w64}
 use mir.Val.{toZ, ofZ}
@@ -15,9 +15,12 @@ take-null-spec =
     (tie.spec
     -- add-offset
     (λ c. record { fits = omega (arith, c .before .before .pre .short, c .before .before .pre .above) })
-    (λ c κs. search needs)
     -- depth-below-requires
-    (λ c κs. let e : toZ w64 (ofZ w64 ((c .before .before .before .args .raw) .depth)) ≡ (c .before .before .before .args .raw) .depth = search needs in rw e (onward-near (c .before .before .before .args .raw) (c .before .before .before .pre)))
+    (λ c κs. let e : toZ w64 (ofZ w64 (c .before .before .args .raw .depth)) ≡ c .before .before .args .raw .depth = search needs in rw e (onward-near (c .before .before .args .raw) (c .before .before .pre)))
+    (λ c κs. search needs)
     (λ c κs. search needs)
     -- returns
-    (λ c. let e : toZ w64 (ofZ w64 ((c .before .before .before .before .before .args .raw) .depth)) ≡ (c .before .before .before .before .before .args .raw) .depth = search needs in let f : toZ w64 (ofZ w64 (c .before .depth-below .result)) ≡ c .before .depth-below .result = toZ-ofZ {w = w64} {z = c .before .depth-below .result} (record { sfits = c .before .depth-below .ok }) in same-taken _ (rw e at (c .before .before .null-at .ensures)) (c .moved .ensures ∙ ap (movedTo (c .before .before .before .before .before .args .raw) (c .before .before .before .before .before .args .next)) (f ∙ rw e at (c .before .depth-below .ensures)))))
+    (λ c.
+    let e : toZ w64 (ofZ w64 (c .before .before .before .before .before .args .raw .depth)) ≡ c .before .before .before .before .before .args .raw .depth = search needs in
+    let f : toZ w64 (ofZ w64 (c .before .before .depth-below .result)) ≡ c .before .before .depth-below .result = toZ-ofZ {w = w64} {z = c .before .before .depth-below .result} (record { sfits = c .before .before .depth-below .ok }) in
+    same-taken _ (rw e at (c .before .null-at .ensures)) (c .moved .ensures ∙ ap (movedTo (c .before .before .before .before .before .args .raw) (c .before .before .before .before .before .args .next)) (f ∙ rw e at (c .before .before .depth-below .ensures)))))

@@ -1,8 +1,6 @@
 use Rattle.entries.proofs.EntryLaws.{sibling-is}
-use Rattle.entries.specs.Entry.{siblingOf}
 use borrow.Author.Needs.{needs}
 use borrow.Author.Tests.{lt-ltb, le-ltb, eq-eqb, ne-eqb}
-use mathlib.Core.Bool.{and-false}
 use Rattle.entries.proofs.entry.Entry.sibling.Statement.{statement}
 use Rattle.entries.proofs.entry.Entry.sibling.Tie as tie
 

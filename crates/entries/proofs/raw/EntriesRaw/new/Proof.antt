@@ -1,7 +1,8 @@
-use Prim.Native.Nat.{_+_, _^_}
 use Rattle.entries.specs.Raw.{opened}
-use borrow.Author.Tests.{lt-ltb, le-ltb}
+use borrow.Author.Needs.{needs}
+use borrow.Author.Tests.{le-leb}
 use lib.ListN.{length}
+use mathlib.Core.Path.{sym, _∙_}
 use native.Mathlib.Omega.{arith}
 use Rattle.entries.proofs.raw.EntriesRaw.new.Statement.{statement}
 use Rattle.entries.proofs.raw.EntriesRaw.new.Tie as tie
@@ -11,9 +12,8 @@ unfolding opened
 new-spec =
     tie.close
     (tie.spec
+    (λ c κs. search needs)
     -- returns
-    (λ c. rw (le-ltb (c .before .args .start + length (c .before .args .bytes .now)) (2 ^ 63) (omega (arith, c .if1 .taken))))
+    (λ c. rw (rw (le-leb 0 (length (c .before .before .before .args .bytes .now)) (omega arith)) at (sym (c .before .keeps-place .ensures) ∙ c .if1 .taken)))
     -- returns-2
-    (λ c. rw (le-ltb (c .before .before .args .start + length (c .before .before .args .bytes .now)) (2 ^ 63) (omega (arith, c .before .if1 .left, c .if2 .taken))))
-    -- returns-3
-    (λ c. rw (lt-ltb (c .before .before .args .start + length (c .before .before .args .bytes .now)) (2 ^ 63) (omega (arith, c .before .if1 .left, c .if2 .left)))))
+    (λ c. rw (rw (le-leb 0 (length (c .before .before .before .args .bytes .now)) (omega arith)) at (sym (c .before .keeps-place .ensures) ∙ c .if1 .left))))

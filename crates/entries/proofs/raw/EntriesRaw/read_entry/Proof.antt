@@ -19,13 +19,13 @@ read-entry-spec =
     (λ c κs. search needs)
     (λ c. search needs)
     -- take-entry-requires
-    (λ c κs. entry-onward (c .before .before .before .before .before .before .before .before .before .before .before .before .before .before .before .args .self) (c .before .before .before .before .before .before .before .before .before .before .before .before .before .before .before .args .bytes .now) (c .before .before .before .before .before .before .before .before .before .before .before .before .before .before .before .args .rows .now) (c .before .before .before .before .before .before .before .before .before .before .before .before .before .before .before .args .specs .now) (sym (c .before .before .before .before .before .before .before .before .before .before .before .keeps-raw .ensures) ∙ c .before .before .before .before .before .before .before .before .before .before .if1 .taken) (sym (c .before .before .before .before .before .before .before .before .before .code-at .ensures) ∙ ap viewCode (c .before .before .before .before .before .before .before .abbreviation .given .1)) (c .before .before .before .before .read-attributes .ensures) (ap viewPlace (c .before .end .given .1)))
+    (λ c κs. entry-onward 64 (c .before .before .before .before .before .before .before .before .before .before .before .before .before .before .before .args .self) (c .before .before .before .before .before .before .before .before .before .before .before .before .before .before .before .args .bytes .now) (c .before .before .before .before .before .before .before .before .before .before .before .before .before .before .before .args .rows .now) (c .before .before .before .before .before .before .before .before .before .before .before .before .before .before .before .args .specs .now) (sym (c .before .before .before .before .before .before .before .before .before .before .before .keeps-raw .ensures) ∙ c .before .before .before .before .before .before .before .before .before .before .if1 .taken) (sym (c .before .before .before .before .before .before .before .before .before .code-at .ensures) ∙ ap viewCode (c .before .before .before .before .before .before .before .abbreviation .given .1)) (c .before .before .before .before .read-attributes .ensures) (ap viewPlace (c .before .end .given .1)))
     -- returns
-    (λ c. c .take-entry .ensures ∙ entry-read (c .before .before .before .before .before .before .before .before .before .before .before .before .before .before .before .before .args .self) (c .before .before .before .before .before .before .before .before .before .before .before .before .before .before .before .before .args .bytes .now) (c .before .before .before .before .before .before .before .before .before .before .before .before .before .before .before .before .args .rows .now) (c .before .before .before .before .before .before .before .before .before .before .before .before .before .before .before .before .args .specs .now) (sym (c .before .before .before .before .before .before .before .before .before .before .before .before .keeps-raw .ensures) ∙ c .before .before .before .before .before .before .before .before .before .before .before .if1 .taken) (sym (c .before .before .before .before .before .before .before .before .before .before .code-at .ensures) ∙ ap viewCode (c .before .before .before .before .before .before .before .before .abbreviation .given .1)) (c .before .before .before .before .before .read-attributes .ensures) (ap viewPlace (c .before .before .end .given .1)))
+    (λ c. c .take-entry .ensures ∙ entry-read 64 (c .before .before .before .before .before .before .before .before .before .before .before .before .before .before .before .before .args .self) (c .before .before .before .before .before .before .before .before .before .before .before .before .before .before .before .before .args .bytes .now) (c .before .before .before .before .before .before .before .before .before .before .before .before .before .before .before .before .args .rows .now) (c .before .before .before .before .before .before .before .before .before .before .before .before .before .before .before .before .args .specs .now) (sym (c .before .before .before .before .before .before .before .before .before .before .before .before .keeps-raw .ensures) ∙ c .before .before .before .before .before .before .before .before .before .before .before .if1 .taken) (sym (c .before .before .before .before .before .before .before .before .before .before .code-at .ensures) ∙ ap viewCode (c .before .before .before .before .before .before .before .before .abbreviation .given .1)) (c .before .before .before .before .before .read-attributes .ensures) (ap viewPlace (c .before .before .end .given .1)))
     (λ c. search needs)
     (λ c κs. search needs)
     -- returns-2
-    (λ c. c .refuse .ensures ∙ entry-refused (c .before .before .before .before .before .before .before .before .before .before .before .before .before .before .before .before .args .self) (c .before .before .before .before .before .before .before .before .before .before .before .before .before .before .before .before .args .bytes .now) (c .before .before .before .before .before .before .before .before .before .before .before .before .before .before .before .before .args .rows .now) (c .before .before .before .before .before .before .before .before .before .before .before .before .before .before .before .before .args .specs .now) (sym (c .before .before .before .before .before .before .before .before .before .before .before .before .keeps-raw .ensures) ∙ c .before .before .before .before .before .before .before .before .before .before .before .if1 .taken) (sym (c .before .before .before .before .before .before .before .before .before .before .code-at .ensures) ∙ ap viewCode (c .before .before .before .before .before .before .before .before .abbreviation .given .1)) (c .before .before .before .before .before .read-attributes .ensures) (ap viewPlace (c .before .before .end2 .given .1)))
+    (λ c. c .refuse .ensures ∙ entry-refused 64 (c .before .before .before .before .before .before .before .before .before .before .before .before .before .before .before .before .args .self) (c .before .before .before .before .before .before .before .before .before .before .before .before .before .before .before .before .args .bytes .now) (c .before .before .before .before .before .before .before .before .before .before .before .before .before .before .before .before .args .rows .now) (c .before .before .before .before .before .before .before .before .before .before .before .before .before .before .before .before .args .specs .now) (sym (c .before .before .before .before .before .before .before .before .before .before .before .before .keeps-raw .ensures) ∙ c .before .before .before .before .before .before .before .before .before .before .before .if1 .taken) (sym (c .before .before .before .before .before .before .before .before .before .before .code-at .ensures) ∙ ap viewCode (c .before .before .before .before .before .before .before .before .abbreviation .given .1)) (c .before .before .before .before .before .read-attributes .ensures) (ap viewPlace (c .before .before .end2 .given .1)))
     (λ c. search needs)
     -- take-null-requires
     (λ c κs.

@@ -1,0 +1,11 @@
+use borrow.Author.Needs.{needs}
+use Rattle.entries.proofs.cursor.no_cursor.Statement.{statement}
+use Rattle.entries.proofs.cursor.no_cursor.Tie as tie
+
+pub no-cursor-spec : {M : Type 1} → statement M
+no-cursor-spec =
+    tie.close
+    (tie.spec
+    (λ c κs. search needs)
+    -- returns
+    (λ c. rw (c .null-at .ensures)))
