@@ -94,9 +94,9 @@ fn halt(raw: EntriesRaw, bytes: &[u8], rows: &[u64], specs: &[u64], error: Error
 {
     let after = depth_at(raw, bytes, rows, specs);
     let offset = raw.start + raw.position;
-    let depth = raw.depth;
+    let own = raw.depth;
     let input = moved(raw, bytes.len(), after);
-    let entry = null_at(offset, depth);
+    let entry = null_at(offset, own);
     let cursor = EntriesCursor { input, entry };
     CursorNext {
         answer: Next::Refused(error),

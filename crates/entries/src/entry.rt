@@ -1,9 +1,9 @@
 // Entries by value, and gimli's questions to one.
 
-ghost use mathlib.Core.Bool.{cond};
+ghost use mathlib.Core.Bool.{cond, _&&_};
 ghost use mathlib.Core.Option.{none, some};
 ghost use mathlib.Core.Path.{_≡_};
-ghost use lib.Dec.{ltb};
+ghost use lib.Dec.{leb, ltb};
 ghost use lib.IntN.{pos};
 ghost use lib.ListN.{getD};
 ghost use Rattle.abbrev.specs.Table.{entryLimit};
@@ -134,13 +134,7 @@ impl Entry {
         if self.has_children {
             match self.sibling() {
                 Number::Value(target) => {
-                    if target < (next as u64) {
-                        return Number::Absent;
-                    }
-                    if (end as u64) < target {
-                        return Number::Absent;
-                    }
-                    return Number::Value(target);
+                    return between(target, next as u64, end as u64);
                 }
                 Number::Absent => {
                     return Number::Absent;
@@ -148,6 +142,20 @@ impl Entry {
             }
         }
         Number::Absent
+    }
+}
+
+// A target that is not before `next` and not past `end`.
+fn between(target: u64, next: u64, end: u64) -> Number
+    ensures { λ r. ⌜ viewNumber r ≡ cond (leb next target && leb target end) (some target) none ⌝ }
+{
+    if target < next {
+        return Number::Absent;
+    }
+    if end < target {
+        Number::Absent
+    } else {
+        Number::Value(target)
     }
 }
 

@@ -1,8 +1,6 @@
 use Rattle.entries.proofs.EntryLaws.{jump-with, jump-without}
 use Rattle.entries.specs.Views.{viewEntry}
 use borrow.Author.Needs.{needs}
-use borrow.Author.Tests.{le-leb, lt-leb}
-use mathlib.Core.Bool.{and-false}
 use mathlib.Core.Path.{sym}
 use Rattle.entries.proofs.entry.Entry.jump.Statement.{statement}
 use Rattle.entries.proofs.entry.Entry.jump.Tie as tie
@@ -13,14 +11,11 @@ jump-spec =
     (tie.spec
     (λ c κs. search needs)
     (λ c. search needs)
+    (λ c κs. search needs)
     -- returns
-    (λ c. rw (jump-with (viewEntry (c .before .before .before .before .before .before .args .self)) (c .before .before .before .before .before .before .args .next) (c .before .before .before .before .before .before .args .end) (c .before .before .before .before .before .if1 .taken), ← c .before .before .before .before .sibling .ensures, c .before .before .target .given .1, lt-leb _ _ (c .if2 .taken)))
-    -- returns-2
-    (λ c. rw (jump-with (viewEntry (c .before .before .before .before .before .before .before .args .self)) (c .before .before .before .before .before .before .before .args .next) (c .before .before .before .before .before .before .before .args .end) (c .before .before .before .before .before .before .if1 .taken), ← c .before .before .before .before .before .sibling .ensures, c .before .before .before .target .given .1, lt-leb _ _ (c .if3 .taken), and-false))
-    -- returns-3
-    (λ c. rw (jump-with (viewEntry (c .before .before .before .before .before .before .before .args .self)) (c .before .before .before .before .before .before .before .args .next) (c .before .before .before .before .before .before .before .args .end) (c .before .before .before .before .before .before .if1 .taken), ← c .before .before .before .before .before .sibling .ensures, c .before .before .before .target .given .1, le-leb _ _ (c .before .if2 .left), le-leb _ _ (c .if3 .left)))
+    (λ c. rw (jump-with (viewEntry (c .before .before .before .before .before .before .args .self)) (c .before .before .before .before .before .before .args .next) (c .before .before .before .before .before .before .args .end) (c .before .before .before .before .before .if1 .taken), ← c .before .before .before .before .sibling .ensures, c .before .before .target .given .1) (c .between .ensures))
     (λ c. search needs)
-    -- returns-4
+    -- returns-2
     (λ c. rw (jump-with (viewEntry (c .before .before .before .before .args .self)) (c .before .before .before .before .args .next) (c .before .before .before .before .args .end) (c .before .before .before .if1 .taken), ← c .before .before .sibling .ensures, c .enum-told .given .1))
-    -- returns-5
+    -- returns-3
     (λ c. sym (jump-without (viewEntry (c .before .args .self)) (c .before .args .next) (c .before .args .end) (c .if1 .left))))
