@@ -9,10 +9,10 @@ use lib.IntN.{ℤ, natAbs}
 use lib.ListN.{length}
 use Rattle.reader.specs.Answer.{Answer, got, refused}
 use Rattle.attribute.proofs.FormLaws.{both}
-use Rattle.entries.specs.Cursor.{Cursor, keepsCursor, Called, goOn, itemNext, held, advanced, seek}
+use Rattle.entries.specs.Cursor.{Cursor, keepsCursor, Called, goOn, itemNext, held, advanced, seek, settled}
 use Rattle.entries.specs.Entry.{Entry}
 use Rattle.entries.specs.Raw.{keepsRaw, Taken, rawEntry}
-use Rattle.entries.specs.Steps.{KeptRaw, settled, Arrived}
+use Rattle.entries.specs.Steps.{KeptRaw, Arrived}
 use Rattle.entries.specs.declared.pass.Passing.{Passing}
 use Rattle.entries.specs.declared.raw.EntriesRaw.{EntriesRaw}
 use Rattle.entries.proofs.RawLaws.{raw-kept}

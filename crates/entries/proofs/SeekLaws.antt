@@ -17,11 +17,11 @@ use Rattle.abbrev.proofs.Lookups.{lookup-keeps}
 use Rattle.attribute.specs.Read.{attributesAt}
 use Rattle.attribute.specs.Value.{Attribute}
 use Rattle.attribute.proofs.FormLaws.{both}
-use Rattle.entries.specs.Cursor.{Cursor, Called, reached, turned, goOn, jumped, isEntry, depthPast, itemNext, held, advanced, seekWithin, seek}
+use Rattle.entries.specs.Cursor.{Cursor, Called, reached, turned, goOn, jumped, isEntry, depthPast, itemNext, held, advanced, seekWithin, seek, settled}
 use Rattle.entries.specs.Entry.{Entry, nullEntry, entryOf, isNull, siblingOf, jumpOf}
 use Rattle.entries.specs.Raw.{movedTo, emptyRaw, sourceOf, Taken, taken as takenFrom, rawEntry}
 use Rattle.entries.specs.Read.{known, abbreviationAt, raised, depthAfter, entryAfter, entryAt}
-use Rattle.entries.specs.Steps.{KeptRaw, settled, Arrived}
+use Rattle.entries.specs.Steps.{KeptRaw, Arrived}
 use Rattle.entries.specs.declared.pass.Passing.{Passing}
 use Rattle.entries.specs.declared.raw.EntriesRaw.{EntriesRaw}
 use Rattle.entries.proofs.DepthLaws.{abs-up, abs-down}

@@ -99,6 +99,10 @@ turned wanted again (refused n) c = record { answer = refused n; cursor = c }
 abbrev pub goOn : (Entry → Bool) → (Cursor → Called) → Called → Called
 goOn wanted again r = turned wanted again (r .answer) (r .cursor)
 
+-- whatever was reached is the answer
+abbrev pub settled : Called → Called
+settled r = goOn (λ (e : Entry). true) reached r
+
 module _ (most : ℕ) (s rows specs : List ℕ) where
   -- the depth after the code that is read next
   abbrev pub depthPast : EntriesRaw → ℤ
@@ -128,6 +132,10 @@ module _ (most : ℕ) (s rows specs : List ℕ) where
   -- gimli's next_entry
   unfoldable pub nextEntry : Cursor → Called
   nextEntry c = judgedCall (keepsCursor most (length s) c) c (advanced (c .input) (c .entry .offset) (c .entry .depth))
+
+  -- the next item, where an entry is the answer and a null is "no more"
+  unfoldable pub nextChild : Cursor → Called
+  nextChild c = judgedCall (keepsCursor most (length s) c) c (settled (advanced (c .input) (c .entry .offset) (c .entry .depth)))
 
   -- on to the first item that is wanted, each read from where `from` says; of n items more at most
   unfoldable pub seekWithin : (Cursor → EntriesRaw) → (Entry → Bool) → ℕ → Cursor → Called

@@ -12,7 +12,7 @@ use Rattle.abbrev.specs.Lookup.{Found}
 use Rattle.abbrev.specs.Table.{Specification}
 use Rattle.attribute.specs.Attributes.{readAttributes}
 use Rattle.attribute.specs.Value.{Attribute}
-use Rattle.entries.specs.Cursor.{Cursor, Called, reached, goOn, jumped, depthPast, itemNext, advanced, seek}
+use Rattle.entries.specs.Cursor.{Cursor, Called, reached, goOn, settled, jumped, depthPast, itemNext, advanced, seek}
 use Rattle.entries.specs.Entry.{Entry}
 use Rattle.entries.specs.Raw.{movedTo, Taken}
 use Rattle.entries.specs.Read.{raised}
@@ -46,10 +46,6 @@ tookEntry w f attrs next =
 abbrev pub namesAny : ℕ → List Specification → Bool
 namesAny n [] = false
 namesAny n (x ∷ xs) = eqb (x .name) n || namesAny n xs
-
--- what was reached is the answer
-abbrev pub settled : Called → Called
-settled r = goOn (λ (e : Entry). true) reached r
 
 abbrev pub viewItem : Item → Option EntriesRaw
 viewItem (item.On w) = some w

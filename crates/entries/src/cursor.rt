@@ -4,14 +4,14 @@
 ghost use mathlib.Core.Bool.{true};
 ghost use mathlib.Core.Path.{_≡_};
 ghost use lib.ListN.{length};
-ghost use Rattle.reader.specs.Answer.{refused};
+ghost use Rattle.reader.specs.Answer.{got, refused};
 ghost use Rattle.reader.specs.Errors.{numberOf};
 ghost use Rattle.reader.specs.Views.{viewPlace};
 ghost use Rattle.abbrev.specs.Table.{entryLimit};
-ghost use Rattle.entries.specs.Cursor.{openedCursor, noCursor, orNoCursor, keepsCursor, currentOf, held, advanced, nextEntry, nextDfs, toDepth, nextAtDepth, nextSibling};
+ghost use Rattle.entries.specs.Cursor.{openedCursor, noCursor, orNoCursor, keepsCursor, currentOf, settled, held, advanced, nextEntry, nextChild, nextDfs, toDepth, nextAtDepth, nextSibling};
 ghost use Rattle.entries.specs.Raw.{offsetOf};
-ghost use Rattle.entries.specs.Steps.{KeptRaw, settled};
-ghost use Rattle.entries.specs.Views.{viewCursor, viewOpenedCursor, viewCurrent, viewCursorNext};
+ghost use Rattle.entries.specs.Steps.{KeptRaw};
+ghost use Rattle.entries.specs.Views.{viewEntry, viewCursor, viewOpenedCursor, viewCurrent, viewCursorNext};
 use super::entry::Entry;
 use super::entry::null_at;
 use super::pass::Passing;
@@ -62,21 +62,6 @@ pub struct CursorNext {
     pub cursor: EntriesCursor,
 }
 
-// Whether a state keeps document 01's sizes over so many bytes.
-fn keeps_cursor(count: usize, cursor: EntriesCursor) -> bool
-    ensures { λ r. ⌜ r ≡ keepsCursor (entryLimit .most) count (viewCursor cursor) ⌝ }
-{
-    let input = cursor.input;
-    let entry = cursor.entry;
-    if keeps_raw(count, input) {
-        if keeps_depth(entry.depth, input.position) {
-            return entry.count <= MAX_ATTRIBUTES;
-        }
-        return false;
-    }
-    false
-}
-
 // Refused before all reading: the state is kept.
 fn refuse(cursor: EntriesCursor) -> CursorNext
     ensures { λ r. ⌜ viewCursorNext r ≡ record { answer = refused 1; cursor = viewCursor cursor } ⌝ }
@@ -100,6 +85,17 @@ fn halt(raw: EntriesRaw, bytes: &[u8], rows: &[u64], specs: &[u64], error: Error
     let cursor = EntriesCursor { input, entry };
     CursorNext {
         answer: Next::Refused(error),
+        cursor,
+    }
+}
+
+// What was read is held.
+fn hold(input: EntriesRaw, entry: Entry) -> CursorNext
+    ensures { λ r. ⌜ viewCursorNext r ≡ record { answer = got true; cursor = record { input = input; entry = viewEntry entry } } ⌝ }
+{
+    let cursor = EntriesCursor { input, entry };
+    CursorNext {
+        answer: Next::Held,
         cursor,
     }
 }
@@ -129,14 +125,8 @@ fn advance(
     let entry = read.entry;
     let input = read.raw;
     match answer {
-        Said::Entry => CursorNext {
-            answer: Next::Held,
-            cursor: EntriesCursor { input, entry },
-        },
-        Said::Null => CursorNext {
-            answer: Next::Held,
-            cursor: EntriesCursor { input, entry },
-        },
+        Said::Entry => hold(input, entry),
+        Said::Null => hold(input, entry),
         Said::Refused(e) => halt(raw, bytes, rows, specs, e),
     }
 }
@@ -252,6 +242,21 @@ impl EntriesCursor {
         }
     }
 
+    // Whether a state that anybody may have made keeps document 01's sizes over so many bytes.
+    pub fn keeps_sizes(self, count: usize) -> bool
+        ensures { λ r. ⌜ r ≡ keepsCursor (entryLimit .most) count (viewCursor self) ⌝ }
+    {
+        let input = self.input;
+        let entry = self.entry;
+        if keeps_raw(count, input) {
+            if keeps_depth(entry.depth, input.position) {
+                return entry.count <= MAX_ATTRIBUTES;
+            }
+            return false;
+        }
+        false
+    }
+
     // gimli's `current`.
     pub fn current(self) -> Current
         ensures { λ r. ⌜ viewCurrent r ≡ currentOf (viewCursor self) ⌝ }
@@ -303,10 +308,27 @@ impl EntriesCursor {
     pub fn next_entry(self, bytes: &[u8], rows: &[u64], specs: &[u64]) -> CursorNext
         ensures { λ r. ⌜ viewCursorNext r ≡ nextEntry (entryLimit .most) (now (bytes .entry)) (now (rows .entry)) (now (specs .entry)) (viewCursor self) ⌝ }
     {
-        if keeps_cursor(bytes.len(), self) {
+        if self.keeps_sizes(bytes.len()) {
             let input = self.input;
             let entry = self.entry;
             return advance(input, entry.offset, entry.depth, bytes, rows, specs);
+        }
+        refuse(self)
+    }
+
+    // The next entry; a null is "no more".
+    pub fn next_child(self, bytes: &[u8], rows: &[u64], specs: &[u64]) -> CursorNext
+        ensures { λ r. ⌜ viewCursorNext r ≡ nextChild (entryLimit .most) (now (bytes .entry)) (now (rows .entry)) (now (specs .entry)) (viewCursor self) ⌝ }
+    {
+        if self.keeps_sizes(bytes.len()) {
+            let raw = self.input;
+            let entry = self.entry;
+            let here = Passing {
+                raw,
+                offset: entry.offset,
+                depth: entry.depth,
+            };
+            return arrive(here, bytes, rows, specs);
         }
         refuse(self)
     }
@@ -315,7 +337,7 @@ impl EntriesCursor {
     pub fn next_dfs(self, bytes: &[u8], rows: &[u64], specs: &[u64]) -> CursorNext
         ensures { λ r. ⌜ viewCursorNext r ≡ nextDfs (entryLimit .most) (now (bytes .entry)) (now (rows .entry)) (now (specs .entry)) (viewCursor self) ⌝ }
     {
-        if keeps_cursor(bytes.len(), self) {
+        if self.keeps_sizes(bytes.len()) {
             let raw = self.input;
             let entry = self.entry;
             let from = Passing {
@@ -333,7 +355,7 @@ impl EntriesCursor {
     pub fn next_at_depth(self, bytes: &[u8], rows: &[u64], specs: &[u64], depth: i64) -> CursorNext
         ensures { λ r. ⌜ viewCursorNext r ≡ nextAtDepth (entryLimit .most) (now (bytes .entry)) (now (rows .entry)) (now (specs .entry)) depth (viewCursor self) ⌝ }
     {
-        if keeps_cursor(bytes.len(), self) {
+        if self.keeps_sizes(bytes.len()) {
             return go_to(self, bytes, rows, specs, depth);
         }
         refuse(self)
@@ -343,7 +365,7 @@ impl EntriesCursor {
     pub fn next_sibling(self, bytes: &[u8], rows: &[u64], specs: &[u64]) -> CursorNext
         ensures { λ r. ⌜ viewCursorNext r ≡ nextSibling (entryLimit .most) (now (bytes .entry)) (now (rows .entry)) (now (specs .entry)) (viewCursor self) ⌝ }
     {
-        if keeps_cursor(bytes.len(), self) {
+        if self.keeps_sizes(bytes.len()) {
             let entry = self.entry;
             if entry.is_null() {
                 return CursorNext {

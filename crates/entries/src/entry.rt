@@ -1,16 +1,18 @@
 // Entries by value, and gimli's questions to one.
 
-ghost use mathlib.Core.Bool.{cond, _&&_};
+ghost use mathlib.Core.Bool.{cond};
 ghost use mathlib.Core.Option.{none, some};
 ghost use mathlib.Core.Path.{_≡_};
-ghost use lib.Dec.{leb, ltb};
+ghost use lib.Dec.{ltb};
 ghost use lib.IntN.{pos};
 ghost use lib.ListN.{getD};
 ghost use Rattle.abbrev.specs.Table.{entryLimit};
 ghost use Rattle.attribute.specs.Attributes.{filler};
 ghost use Rattle.attribute.specs.Views.{viewNumber};
 ghost use Rattle.entries.specs.Entry.{nullEntry, isNull, attrOf, siblingOf, jumpOf};
+ghost use Rattle.entries.specs.Read.{sameDepth};
 ghost use Rattle.entries.specs.Views.{viewEntry, viewNamed, viewNamedValue, isSome, valueIn};
+use super::target::between;
 use attribute::value::Attribute;
 use attribute::value::AttributeValue;
 use attribute::value::Number;
@@ -145,20 +147,6 @@ impl Entry {
     }
 }
 
-// A target that is not before `next` and not past `end`.
-fn between(target: u64, next: u64, end: u64) -> Number
-    ensures { λ r. ⌜ viewNumber r ≡ cond (leb next target && leb target end) (some target) none ⌝ }
-{
-    if target < next {
-        return Number::Absent;
-    }
-    if end < target {
-        Number::Absent
-    } else {
-        Number::Value(target)
-    }
-}
-
 pub(crate) fn null_at(offset: usize, depth: i64) -> Entry
     ensures { λ r. ⌜ viewEntry r ≡ nullEntry (entryLimit .most) offset depth ⌝ }
 {
@@ -175,4 +163,14 @@ pub(crate) fn null_at(offset: usize, depth: i64) -> Entry
         count: 0,
         attrs: [none; 64],
     }
+}
+
+// Whether two depths are the same.
+pub fn same_depth(a: i64, b: i64) -> bool
+    ensures { λ r. ⌜ r ≡ sameDepth a b ⌝ }
+{
+    if a <= b {
+        return b <= a;
+    }
+    false
 }

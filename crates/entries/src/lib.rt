@@ -7,3 +7,4 @@ pub mod entry; // Entry
 pub mod open; // readers opened by a header
 mod pass; // items passed without building entries
 pub mod raw; // EntriesRaw
+mod target; // the target of a jump

@@ -9,10 +9,10 @@ ghost use Rattle.abbrev.specs.Table.{entryLimit};
 ghost use Rattle.abbrev.specs.Views.{foundOf};
 ghost use Rattle.entries.specs.Cursor.{jumped, plainly, byJump, isEntry, standsAt};
 ghost use Rattle.entries.specs.Entry.{sibling};
-ghost use Rattle.entries.specs.Read.{sameDepth};
 ghost use Rattle.entries.specs.Steps.{KeptRaw, Onward, namesAny, viewItem, pastPlain, passedItem, Arrived};
 ghost use Rattle.entries.specs.Views.{viewEntry};
 use super::entry::Entry;
+use super::entry::same_depth;
 use super::raw::Code;
 use super::raw::EntriesRaw;
 use super::raw::Said;
@@ -142,16 +142,6 @@ fn pass_item(raw: EntriesRaw, bytes: &[u8], rows: &[u64], specs: &[u64], n: usiz
         }
         Code::Refused(_) => Item::Refused,
     }
-}
-
-// Whether two depths are the same.
-fn same_depth(a: i64, b: i64) -> bool
-    ensures { λ r. ⌜ r ≡ sameDepth a b ⌝ }
-{
-    if a <= b {
-        return b <= a;
-    }
-    false
 }
 
 // Passes items until the next one stands at a depth or is refused, or none is left.

@@ -1,4 +1,4 @@
-use Rattle.entries.specs.Steps.{settled}
+use Rattle.entries.specs.Cursor.{settled}
 use borrow.Author.Needs.{needs}
 use mathlib.Core.Path.{ap, _≡_, _∙_}
 use mir.Syntax.{w64}

@@ -1,3 +1,4 @@
+use Rattle.entries.specs.Entry.{nullEntry}
 use Rattle.entries.proofs.CursorLaws.{same-called}
 use Rattle.entries.specs.Cursor.{held}
 use Rattle.entries.specs.Raw.{movedTo}
@@ -27,4 +28,4 @@ halt-spec =
     let a = c .before .before .before .before .before .before .before .before .args in
     let e : toZ w64 (ofZ w64 (a .raw .depth)) ≡ a .raw .depth = search needs in
     let f : toZ w64 (ofZ w64 (c .before .before .before .before .depth-at .result)) ≡ c .before .before .before .before .depth-at .result = toZ-ofZ {w = w64} {z = c .before .before .before .before .depth-at .result} (record { sfits = c .before .before .before .before .depth-at .ok }) in
-    same-called _ (c .before .moved .ensures ∙ ap (movedTo (a .raw) (length (a .bytes .now))) (f ∙ c .before .before .before .before .depth-at .ensures)) (rw e at (c .null-at .ensures))))
+    same-called _ (c .before .moved .ensures ∙ ap (movedTo (a .raw) (length (a .bytes .now))) (f ∙ c .before .before .before .before .depth-at .ensures)) (c .null-at .ensures ∙ ap (nullEntry 64 _) e)))

@@ -1,3 +1,4 @@
+use Rattle.entries.specs.Entry.{nullEntry}
 use Rattle.entries.proofs.RawLaws.{onward-near, same-taken}
 use Rattle.entries.specs.Raw.{movedTo}
 use borrow.Author.Needs.{needs}
@@ -23,4 +24,4 @@ take-null-spec =
     (λ c.
     let e : toZ w64 (ofZ w64 (c .before .before .before .before .before .args .raw .depth)) ≡ c .before .before .before .before .before .args .raw .depth = search needs in
     let f : toZ w64 (ofZ w64 (c .before .before .depth-below .result)) ≡ c .before .before .depth-below .result = toZ-ofZ {w = w64} {z = c .before .before .depth-below .result} (record { sfits = c .before .before .depth-below .ok }) in
-    same-taken _ (rw e at (c .before .null-at .ensures)) (c .moved .ensures ∙ ap (movedTo (c .before .before .before .before .before .args .raw) (c .before .before .before .before .before .args .next)) (f ∙ rw e at (c .before .before .depth-below .ensures)))))
+    same-taken _ (c .before .null-at .ensures ∙ ap (nullEntry 64 _) e) (c .moved .ensures ∙ ap (movedTo (c .before .before .before .before .before .args .raw) (c .before .before .before .before .before .args .next)) (f ∙ rw e at (c .before .before .depth-below .ensures)))))

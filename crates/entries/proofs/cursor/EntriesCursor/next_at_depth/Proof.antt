@@ -12,9 +12,9 @@ next-at-depth-spec =
     (tie.spec
     (λ c κs. search needs)
     -- go-to-requires
-    (λ c κs. sym (c .before .keeps-cursor .ensures) ∙ c .if1 .taken)
+    (λ c κs. sym (c .before .keeps-sizes .ensures) ∙ c .if1 .taken)
     -- returns
-    (λ c. rw (← c .before .before .keeps-cursor .ensures, c .before .if1 .taken) (rw (toZ-ofZ (c .before .before .before .before .before .before .fits .depth)) at (c .go-to .ensures)))
+    (λ c. rw (← c .before .before .keeps-sizes .ensures, c .before .if1 .taken) (rw (toZ-ofZ (c .before .before .before .before .before .before .fits .depth)) at (c .go-to .ensures)))
     (λ c κs. search needs)
     -- returns-2
-    (λ c. rw (← c .before .before .keeps-cursor .ensures, c .before .if1 .left) (c .refuse .ensures)))
+    (λ c. rw (← c .before .before .keeps-sizes .ensures, c .before .if1 .left) (c .refuse .ensures)))

@@ -15,11 +15,11 @@ next-entry-spec =
     (tie.spec
     (λ c κs. search needs)
     -- advance-requires
-    (λ c κs. cursor-kept 64 _ (viewCursor (c .before .before .before .before .before .before .before .before .args .self)) (sym (c .before .before .before .before .keeps-cursor .ensures) ∙ c .before .before .before .if1 .taken) .0)
+    (λ c κs. cursor-kept 64 _ (viewCursor (c .before .before .before .before .before .before .before .before .args .self)) (sym (c .before .before .before .before .keeps-sizes .ensures) ∙ c .before .before .before .if1 .taken) .0)
     -- returns
     (λ c.
     let e : toZ w64 (ofZ w64 (c .before .before .before .before .before .before .before .before .before .args .self .entry .depth)) ≡ c .before .before .before .before .before .before .before .before .before .args .self .entry .depth = search needs in
-    rw (← c .before .before .before .before .before .keeps-cursor .ensures, c .before .before .before .before .if1 .taken) (rw e at (c .advance .ensures)))
+    rw (← c .before .before .before .before .before .keeps-sizes .ensures, c .before .before .before .before .if1 .taken) (rw e at (c .advance .ensures)))
     (λ c κs. search needs)
     -- returns-2
-    (λ c. rw (← c .before .before .keeps-cursor .ensures, c .before .if1 .left) (c .refuse .ensures)))
+    (λ c. rw (← c .before .before .keeps-sizes .ensures, c .before .if1 .left) (c .refuse .ensures)))

@@ -1,7 +1,7 @@
 use Rattle.entries.proofs.EntryLaws.{same-by, same-not}
 use mir.Facts.{toZ-ofZ}
-use Rattle.entries.proofs.pass.same_depth.Statement.{statement}
-use Rattle.entries.proofs.pass.same_depth.Tie as tie
+use Rattle.entries.proofs.entry.same_depth.Statement.{statement}
+use Rattle.entries.proofs.entry.same_depth.Tie as tie
 
 pub same-depth-spec : {M : Type 1} → statement M
 same-depth-spec =

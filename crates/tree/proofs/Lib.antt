@@ -1,0 +1,10 @@
+-- The plain walk and the tree: what is proved of them.
+pub mod Program
+pub mod Natural
+pub mod Agree
+pub mod Loop
+pub mod Children
+pub mod Sample
+pub mod LevelLaws
+pub mod Real
+pub mod Demand
