@@ -12,7 +12,7 @@ use Rattle.abbrev.specs.Lookup.{Found}
 use Rattle.abbrev.specs.Table.{Specification}
 use Rattle.attribute.specs.Attributes.{readAttributes}
 use Rattle.attribute.specs.Value.{Attribute}
-use Rattle.entries.specs.Cursor.{Cursor, Called, reached, goOn, settled, jumped, depthPast, itemNext, advanced, seek}
+use Rattle.entries.specs.Cursor.{Cursor, goOn, settled, jumped, depthPast, itemNext, advanced, seek}
 use Rattle.entries.specs.Entry.{Entry}
 use Rattle.entries.specs.Raw.{movedTo, Taken}
 use Rattle.entries.specs.Read.{raised}

@@ -2,11 +2,11 @@
 use mathlib.Core.Bool.{Bool, true, false, cond, _&&_, and-false}
 use mathlib.Core.Path.{_≡_, refl, sym, ap, _∙_}
 use mathlib.Core.List.{List}
-use mathlib.Core.Option.{Option, none, some}
-use Prim.Native.Nat.{ℕ, zero, suc, _≤_, _<_}
+use mathlib.Core.Option.{none, some}
+use Prim.Native.Nat.{ℕ, zero, suc}
 use native.Mathlib.Omega.{arith}
 use borrow.Author.Tests.{leb-true, leb-false, le-leb, lt-leb, eq-eqb, ne-eqb}
-use lib.Dec.{eqb, leb}
+use lib.Dec.{leb}
 use lib.IntN.{ℤ, pos, negsuc, sucℤ, _-ℤ_, -ℤ-one}
 use lib.ListN.{length}
 use lib.Signed.{leZ}
@@ -16,7 +16,7 @@ use Rattle.attribute.proofs.FormLaws.{true-false}
 use Rattle.entries.specs.Cursor.{Cursor, keepsCursor, settled, advanced, nextChild, toDepth, nextAtDepth}
 use Rattle.entries.specs.Entry.{isNull}
 use Rattle.entries.specs.Read.{sameDepth}
-use Rattle.tree.specs.Tree.{Tree, Answered, noMore, refuses, judgedTree, inTree, childOf, levelOf, nextOf}
+use Rattle.tree.specs.Tree.{Tree, Answered, noMore, refuses, inTree, childOf, levelOf, nextOf}
 use Rattle.tree.specs.Views.{levelFor}
 use Rattle.tree.specs.Walk.{inRange}
 

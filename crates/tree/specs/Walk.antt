@@ -1,11 +1,10 @@
 -- Document 01, "The plain walk": items, and the walk over a list of them. What is in quotes are its words.
 use mathlib.Core.Path.{_≡_}
-use mathlib.Core.Bool.{Bool, false, not, _&&_, cond}
+use mathlib.Core.Bool.{Bool, not, _&&_, cond}
 use mathlib.Core.Option.{Option, none, some}
 use mathlib.Core.List.{List, [], _∷_}
 use Prim.Native.Nat.{ℕ}
-use lib.Dec.{eqb}
-use lib.IntN.{ℤ, pos, negsuc, sucℤ}
+use lib.IntN.{ℤ, pos, sucℤ}
 use lib.Signed.{ltZ, leZ}
 use Rattle.reader.specs.Answer.{Answer, got, refused, ifSome}
 use Rattle.entries.specs.Read.{sameDepth}
