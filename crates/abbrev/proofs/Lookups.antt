@@ -227,6 +227,16 @@ lookup-exact {rows = rows} {specs = specs} {t = t} most S L c = by (searched c 0
         ap (λ (n : ℕ). andThen (lookup most rows specs n) (λ o. got (Option·map (declarationOf specs) o))) (sym p) ∙ x ∙ ap got (sym q)
     by (missing h q) = rw (lookup-none L most c h, q)
 
+-- whichever row holds which declaration, a code is answered alike
+pub lookup-same : {m k m' k' : ℕ} {rows rows' specs : List ℕ} {t : List Declaration} (most : ℕ) → Sound most t → Laid m k rows specs t → Laid m' k' rows' specs t
+    → (c : ℕ) → lookup most rows specs c ≡ lookup most rows' specs c
+lookup-same {rows = rows} {rows' = rows'} {specs = specs} {t = t} most S L L' c = by (searched c 0 t)
+  where
+    by : Searched c 0 t → lookup most rows specs c ≡ lookup most rows' specs c
+    by (found r i p q) =
+        ap (λ (n : ℕ). lookup most rows specs n) (sym p) ∙ lookup-row L most S r i ∙ sym (lookup-row L' most S r i) ∙ ap (λ (n : ℕ). lookup most rows' specs n) p
+    by (missing h q) = lookup-none L most c h ∙ sym (lookup-none L' most c h)
+
 -- the same of what the table call leaves
 pub table-lookup : (s : List ℕ) (offset : ℕ) (l : Limit) (m k : ℕ) (rows specs : List ℕ) → Left m k rows specs (abbreviationsAt s offset l (m / 5) (k / 3))
     → Holds (λ t. (c : ℕ) → andThen (lookup (l .most) rows specs c) (λ o. got (Option·map (declarationOf specs) o)) ≡ got (declaredIn t c)) (abbreviationsAt s offset l (m / 5) (k / 3))

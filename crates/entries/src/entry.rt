@@ -12,7 +12,7 @@ ghost use Rattle.attribute.specs.Views.{viewNumber};
 ghost use Rattle.entries.specs.Entry.{nullEntry, isNull, attrOf, siblingOf, jumpOf};
 ghost use Rattle.entries.specs.Read.{sameDepth};
 ghost use Rattle.entries.specs.Views.{viewEntry, viewNamed, viewNamedValue, isSome, valueIn};
-use super::target::between;
+use super::bounds::between;
 use attribute::value::Attribute;
 use attribute::value::AttributeValue;
 use attribute::value::Number;

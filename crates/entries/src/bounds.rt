@@ -1,4 +1,4 @@
-// The target of a jump.
+// The bounds of a jump.
 
 ghost use mathlib.Core.Bool.{cond, _&&_};
 ghost use mathlib.Core.Option.{none, some};
