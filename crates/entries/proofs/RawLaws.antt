@@ -3,7 +3,7 @@ use mathlib.Core.Bool.{Bool, true, false, cond, _&&_}
 use mathlib.Core.Path.{_≡_, refl, sym, ap, _∙_}
 use mathlib.Core.List.{List}
 use mathlib.Core.Option.{Option, none, some}
-use Prim.Native.Nat.{ℕ, _+_, _-_, _^_, _≤_, _<_}
+use Prim.Native.Nat.{ℕ, _+_, _-_, _/_, _^_, _≤_, _<_}
 use native.Mathlib.Omega.{arith}
 use borrow.Author.Tests.{leb-true, ltb-true, le-leb, lt-ltb, ne-eqb}
 use lib.Dec.{eqb, leb, ltb}
@@ -13,7 +13,7 @@ use Rattle.reader.specs.Answer.{Answer, got, refused, andThen, Read, gives, Hol
 use Rattle.reader.specs.Leb128.{ulebAt}
 use Rattle.reader.proofs.Accepted.{Ends, uleb-ends}
 use Rattle.reader.proofs.Answers.{holds-then, holds-map, cond-by}
-use Rattle.abbrev.specs.Lookup.{Found, specsKept, keepsSizes, lookup, declarationOf}
+use Rattle.abbrev.specs.Lookup.{Found, leading, rowAt, specsKept, keepsSizes, judgedRow, rowFound, lookup, directLookup, declarationOf}
 use Rattle.attribute.specs.Attributes.{keepsPlace, readAttributes, Stored, stored}
 use Rattle.attribute.proofs.FormLaws.{both}
 use Rattle.attribute.proofs.ListLaws.{read-kept}
@@ -24,11 +24,12 @@ use Rattle.abbrev.specs.Table.{Specification}
 use Rattle.reader.specs.declared.common.Encoding.{Encoding}
 use Rattle.reader.specs.declared.endianity.RunTimeEndian.{RunTimeEndian}
 use Rattle.attribute.specs.Value.{Attribute}
-use Rattle.abbrev.proofs.Lookups.{Keeps, lookup-keeps}
+use Rattle.abbrev.proofs.Lookups.{Keeps, lookup-keeps, direct-lookup}
 use Rattle.entries.specs.Entry.{Entry, entryOf}
+use Rattle.entries.specs.Pass.{directAt}
 use Rattle.entries.specs.Steps.{KeptRaw, Onward, tookEntry}
 use Rattle.entries.specs.Raw.{keepsRaw, Moved, Taken, taken, refusedEntry, rawEntry, Listed}
-use Rattle.entries.specs.Read.{known, abbreviationAt, raised, entryAfter, entryAt}
+use Rattle.entries.specs.Read.{known, codeBy, abbreviationAt, raised, entryAfter, entryAt}
 use Rattle.entries.specs.declared.raw.EntriesRaw.{EntriesRaw}
 
 pub raw-kept : (count : ℕ) (w : EntriesRaw) → keepsRaw count w ≡ true → KeptRaw count w
@@ -46,14 +47,33 @@ known-in s at p (got (some f)) h l = (h, l)
 known-in s at p (refused n) h l = tt
 
 -- each read moves forward by at least a byte
-pub abbreviation-in : (most : ℕ) (s rows specs : List ℕ) (at : ℕ) → Holds (λ v. (at < v .next) × (v .next ≤ length s)) (abbreviationAt most s rows specs at)
-unfolding abbreviationAt
-abbreviation-in most s rows specs at =
+code-in : (find : ℕ → Answer (Option Found)) (s : List ℕ) (at : ℕ) → Holds (λ v. (at < v .next) × (v .next ≤ length s)) (codeBy find s at)
+code-in find s at =
     holds-then (λ r. Ends s at 64 (r .next)) (λ v. (at < v .next) × (v .next ≤ length s)) (ulebAt s at 64) _ (uleb-ends s at 64)
     (λ r x.
     cond-by (Holds (λ v. (at < v .next) × (v .next ≤ length s))) (eqb (r .value) 0) (gives none (r .next)) _
     (λ _. (x .above, x .within))
-    (λ _. known-in s at (r .next) (lookup most rows specs (r .value)) (x .above) (x .within)))
+    (λ _. known-in s at (r .next) (find (r .value)) (x .above) (x .within)))
+
+pub abbreviation-in : (most : ℕ) (s rows specs : List ℕ) (at : ℕ) → Holds (λ v. (at < v .next) × (v .next ≤ length s)) (abbreviationAt most s rows specs at)
+unfolding abbreviationAt
+abbreviation-in most s rows specs at = code-in (lookup most rows specs) s at
+
+pub direct-in : (most n : ℕ) (s rows specs : List ℕ) (at : ℕ) → Holds (λ v. (at < v .next) × (v .next ≤ length s)) (directAt most n s rows specs at)
+unfolding directAt
+direct-in most n s rows specs at = code-in (directLookup most n rows specs) s at
+
+-- where the first n rows hold the codes 1, 2, 3, .., their own rows are the lowest
+pub direct-at : (most n : ℕ) (s rows specs : List ℕ) (at : ℕ) → n ≤ leading rows → directAt most n s rows specs at ≡ abbreviationAt most s rows specs at
+unfolding directAt abbreviationAt
+direct-at most n s rows specs at h = go (ulebAt s at 64)
+  where
+    after : (ℕ → Answer (Option Found)) → Read ℕ → Answer (Read (Option Found))
+    after find r = cond (eqb (r .value) 0) (gives none (r .next)) (known (find (r .value)) (r .next))
+
+    go : (u : Answer (Read ℕ)) → andThen u (after (directLookup most n rows specs)) ≡ andThen u (after (lookup most rows specs))
+    go (got r) = rw (direct-lookup most n rows specs (r .value) h)
+    go (refused k) = refl
 
 -- so a depth can rise and fall once more
 pub near-enough : (count : ℕ) (w : EntriesRaw) {p : ℕ} → KeptRaw count w → w .position < p → p ≤ count → natAbs (w .depth) < 2 ^ 63 - 1
@@ -75,23 +95,38 @@ same-moved {A} x e = ap (λ (v : EntriesRaw). as-moved v) e
     as-moved v = record { answer = x; raw = v }
 
 -- the found row of an entry keeps 01's sizes
-abbreviation-keeps : (most : ℕ) (s rows specs : List ℕ) (at : ℕ) → Holds (λ v. Keeps most specs (v .value)) (abbreviationAt most s rows specs at)
-unfolding abbreviationAt
-abbreviation-keeps most s rows specs at = go (ulebAt s at 64)
+code-keeps : (most : ℕ) (find : ℕ → Answer (Option Found)) (s specs : List ℕ) (at : ℕ) → ((c : ℕ) → Holds (Keeps most specs) (find c)) → Holds (λ v. Keeps most specs (v .value)) (codeBy find s at)
+code-keeps most find s specs at k = go (ulebAt s at 64)
   where
     kept-by : (p : ℕ) (r : Answer (Option Found)) → Holds (Keeps most specs) r → Holds (λ (v : Read (Option Found)). Keeps most specs (v .value)) (known r p)
     kept-by p (got none) h = tt
     kept-by p (got (some f)) h = h
     kept-by p (refused n) h = tt
 
-    go : (u : Answer (Read ℕ)) → Holds (λ (v : Read (Option Found)). Keeps most specs (v .value)) (andThen u (λ r. cond (eqb (r .value) 0) (gives none (r .next)) (known (lookup most rows specs (r .value)) (r .next))))
+    go : (u : Answer (Read ℕ)) → Holds (λ (v : Read (Option Found)). Keeps most specs (v .value)) (andThen u (λ r. cond (eqb (r .value) 0) (gives none (r .next)) (known (find (r .value)) (r .next))))
     go (got r) =
         cond-by (Holds (λ (v : Read (Option Found)). Keeps most specs (v .value))) (eqb (r .value) 0) (gives none (r .next)) _ (λ _. tt)
-        (λ _. kept-by (r .next) (lookup most rows specs (r .value)) (lookup-keeps most rows specs (r .value)))
+        (λ _. kept-by (r .next) (find (r .value)) (k (r .value)))
     go (refused n) = tt
 
 pub found-keeps : (most : ℕ) (s rows specs : List ℕ) (at : ℕ) {f : Found} {p : ℕ} → abbreviationAt most s rows specs at ≡ gives (some f) p → keepsSizes most specs f ≡ true
-found-keeps most s rows specs at e = rw e at (abbreviation-keeps most s rows specs at)
+unfolding abbreviationAt
+found-keeps most s rows specs at e = rw e at (code-keeps most (lookup most rows specs) s specs at (lookup-keeps most rows specs))
+
+-- the same of codes looked up in their own rows
+direct-lookup-keeps : (most n : ℕ) (rows specs : List ℕ) (code : ℕ) → Holds (Keeps most specs) (directLookup most n rows specs code)
+unfolding directLookup rowFound judgedRow
+direct-lookup-keeps most n rows specs code =
+    cond-by (Holds (Keeps most specs)) (ltb 0 code && leb code n) _ (lookup most rows specs code)
+    (λ _.
+    cond-by (Holds (Keeps most specs)) (ltb (code - 1) (length rows / 5)) _ (got none)
+    (λ _. cond-by (Holds (Keeps most specs)) (keepsSizes most specs (rowAt rows (code - 1))) _ (refused 1) (λ h. h) (λ _. tt))
+    (λ _. tt))
+    (λ _. lookup-keeps most rows specs code)
+
+pub direct-keeps : (most n : ℕ) (s rows specs : List ℕ) (at : ℕ) {f : Found} {p : ℕ} → directAt most n s rows specs at ≡ gives (some f) p → keepsSizes most specs f ≡ true
+unfolding directAt
+direct-keeps most n s rows specs at e = rw e at (code-keeps most (directLookup most n rows specs) s specs at (direct-lookup-keeps most n rows specs))
 
 -- from a state that keeps the sizes to a place further on
 pub goes-on : (count : ℕ) (w : EntriesRaw) {p : ℕ} → KeptRaw count w → w .position < p → p ≤ count → Onward w p

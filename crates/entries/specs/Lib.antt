@@ -2,6 +2,7 @@
 pub mod Entry
 pub mod Read
 pub mod Raw
+pub mod Pass
 pub mod Cursor
 pub mod Flat
 pub mod Open

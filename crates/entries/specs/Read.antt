@@ -18,11 +18,15 @@ use Rattle.entries.specs.Entry.{Entry, nullEntry, entryOf, isNull}
 abbrev pub known : Answer (Option Found) → ℕ → Answer (Read (Option Found))
 known r p = andThen r (λ f. ifSome f (refused 16) (λ x. gives (some x) p))
 
+-- what stands at a code, none for a null, by what looks the other codes up
+abbrev pub codeBy : (ℕ → Answer (Option Found)) → List ℕ → ℕ → Answer (Read (Option Found))
+codeBy find s at =
+    andThen (ulebAt s at 64)
+    (λ r. cond (eqb (r .value) 0) (gives none (r .next)) (known (find (r .value)) (r .next)))
+
 -- the abbreviation of an entry by its code, none for a null
 unfoldable pub abbreviationAt : ℕ → List ℕ → List ℕ → List ℕ → ℕ → Answer (Read (Option Found))
-abbreviationAt most s rows specs at =
-    andThen (ulebAt s at 64)
-    (λ r. cond (eqb (r .value) 0) (gives none (r .next)) (known (lookup most rows specs (r .value)) (r .next)))
+abbreviationAt most s rows specs at = codeBy (lookup most rows specs) s at
 
 -- the depth after an entry without and with children
 abbrev pub raised : ℕ → ℤ → ℤ

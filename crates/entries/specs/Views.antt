@@ -12,6 +12,7 @@ use Rattle.attribute.specs.declared.value.Value.{Value}
 use Rattle.entries.specs.Entry.{Entry}
 use Rattle.entries.specs.Cursor.{Cursor, OpenedCursor, Current, Called}
 use Rattle.entries.specs.Open.{EntryAt, UnitAt}
+use Rattle.entries.specs.Pass.{Passed}
 use Rattle.entries.specs.Raw.{Moved, Taken, Listed}
 use Rattle.entries.specs.declared.cursor.Current as declared-current
 use Rattle.entries.specs.declared.cursor.CursorNext.{CursorNext}
@@ -38,10 +39,13 @@ use Rattle.entries.specs.declared.raw.Opened.{Opened}
 use Rattle.entries.specs.declared.raw.Opened.the-variants as opening
 use Rattle.entries.specs.declared.raw.Outcome.{Outcome}
 use Rattle.entries.specs.declared.raw.Outcome.the-variants as outcome
+use Rattle.entries.specs.declared.raw.PassedEntry.{PassedEntry}
+use Rattle.entries.specs.declared.raw.PassedEntry.the-variants as passed
 use Rattle.entries.specs.declared.raw.RawAbbreviation.{RawAbbreviation}
 use Rattle.entries.specs.declared.raw.RawAttribute.{RawAttribute}
 use Rattle.entries.specs.declared.raw.RawAttributes.{RawAttributes}
 use Rattle.entries.specs.declared.raw.RawEntry.{RawEntry}
+use Rattle.entries.specs.declared.raw.RawPassed.{RawPassed}
 use Rattle.entries.specs.declared.raw.RawSkipped.{RawSkipped}
 use Rattle.entries.specs.declared.raw.ReadAttribute.{ReadAttribute}
 use Rattle.entries.specs.declared.raw.ReadAttribute.the-variants as read-attribute
@@ -101,6 +105,14 @@ viewSaid (said.Refused e) = refused (numberOf e)
 
 abbrev pub viewRawEntry : RawEntry → Taken
 viewRawEntry r = record { answer = viewSaid (r .answer); entry = viewEntry (r .entry); raw = r .raw }
+
+abbrev pub viewPassedEntry : PassedEntry → Answer (Option Passed)
+viewPassedEntry (passed.Entry tag count) = got (some (record { tag = tag; count = count }))
+viewPassedEntry passed.Null = got none
+viewPassedEntry (passed.Refused e) = refused (numberOf e)
+
+abbrev pub viewRawPassed : RawPassed → Moved (Option Passed)
+viewRawPassed r = record { answer = viewPassedEntry (r .answer); raw = r .raw }
 
 abbrev pub viewReadAttribute : ReadAttribute → Answer Attribute
 viewReadAttribute (read-attribute.Got a) = got (viewAttribute a)

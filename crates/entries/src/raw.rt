@@ -3,23 +3,24 @@
 ghost use mathlib.Core.Bool.{cond};
 ghost use mathlib.Core.List.{map};
 ghost use mathlib.Core.Path.{_≡_};
-ghost use Prim.Native.Nat.{_+_, _-_, _^_, _≤_, _<_};
+ghost use Prim.Native.Nat.{_+_, _-_, _^_, _<_};
 ghost use lib.Dec.{leb};
 ghost use lib.IntN.{pos, _+ℤ_, _-ℤ_, natAbs};
 ghost use lib.ListN.{length};
-ghost use Rattle.reader.specs.Answer.{gives};
+ghost use Rattle.reader.specs.Answer.{gives, endOf};
 ghost use Rattle.reader.specs.Errors.{numberOf};
 ghost use Rattle.reader.specs.Views.{viewPlace};
-ghost use Rattle.abbrev.specs.Lookup.{leading};
 ghost use Rattle.abbrev.specs.Table.{entryLimit};
 ghost use Rattle.abbrev.specs.Views.{foundOf, specificationOf};
+ghost use Rattle.attribute.specs.Attributes.{readAttributes};
 ghost use Rattle.attribute.specs.Views.{viewAttribute};
 ghost use Rattle.entries.specs.Cursor.{depthPast};
 ghost use Rattle.entries.specs.Entry.{nullEntry};
-ghost use Rattle.entries.specs.Raw.{keepsRaw, movedTo, opened, emptyRaw, offsetOf, rawAbbreviation, refusedEntry, taken, rawEntry, rawAttribute, rawAttributes, rawSkip};
-ghost use Rattle.entries.specs.Read.{abbreviationAt};
+ghost use Rattle.entries.specs.Pass.{directAt, passedTo, rawPassed};
+ghost use Rattle.entries.specs.Raw.{keepsRaw, movedTo, moves, opened, emptyRaw, offsetOf, rawAbbreviation, refusedEntry, taken, rawEntry, rawAttribute, rawAttributes, rawSkip};
+ghost use Rattle.entries.specs.Read.{abbreviationAt, raised};
 ghost use Rattle.entries.specs.Steps.{KeptRaw, Onward, tookEntry};
-ghost use Rattle.entries.specs.Views.{viewOpened, viewCode, viewRawAbbreviation, viewRawEntry, viewRawAttribute, viewRawAttributes, viewRawSkipped};
+ghost use Rattle.entries.specs.Views.{viewOpened, viewCode, viewRawAbbreviation, viewRawEntry, viewRawPassed, viewRawAttribute, viewRawAttributes, viewRawSkipped};
 use super::entry::Entry;
 use super::entry::null_at;
 use abbrev::lookup::Abbreviation;
@@ -30,6 +31,7 @@ use attribute::parse::Parsed;
 use attribute::parse::keeps_place;
 use attribute::parse::parse_attribute;
 use attribute::parse::read_attributes;
+use attribute::pass::pass_attributes;
 use attribute::skip::skip_attributes;
 use attribute::value::Attribute;
 use reader::answer::Place;
@@ -116,6 +118,18 @@ pub struct RawEntry {
     pub raw: EntriesRaw,
 }
 
+// What `pass_entry` says: of an entry its tag and how many values it has.
+pub enum PassedEntry {
+    Entry(u16, usize),
+    Null,
+    Refused(Error),
+}
+
+pub struct RawPassed {
+    pub answer: PassedEntry,
+    pub raw: EntriesRaw,
+}
+
 // Whether a depth is no further from 0 than a position.
 pub(crate) fn keeps_depth(depth: i64, position: usize) -> bool
     ensures { λ r. ⌜ r ≡ leb (natAbs depth) position ⌝ }
@@ -126,10 +140,9 @@ pub(crate) fn keeps_depth(depth: i64, position: usize) -> bool
     ((-1 - depth) as usize) < position
 }
 
-// What stands at a place that has a code. The first `n` rows hold the codes 1, 2, 3, ..
+// What stands at a place that has a code. Codes up to `n` are looked up in their own rows.
 pub(crate) fn code_direct(bytes: &[u8], rows: &[u64], specs: &[u64], n: usize, at: usize) -> Code
-    requires { ⌜ n ≤ leading (now rows) ⌝ }
-    ensures { λ r. ⌜ viewCode r ≡ abbreviationAt (entryLimit .most) (now (bytes .entry)) (now (rows .entry)) (now (specs .entry)) at ⌝ }
+    ensures { λ r. ⌜ viewCode r ≡ directAt (entryLimit .most) n (now (bytes .entry)) (now (rows .entry)) (now (specs .entry)) at ⌝ }
 {
     match read_uleb128(bytes, at) {
         Word::Got(code, next) => {
@@ -146,7 +159,7 @@ pub(crate) fn code_direct(bytes: &[u8], rows: &[u64], specs: &[u64], n: usize, a
     }
 }
 
-// The same by the lowest row, whatever the rows hold.
+// The same by the lowest row with the code.
 fn code_at(bytes: &[u8], rows: &[u64], specs: &[u64], at: usize) -> Code
     ensures { λ r. ⌜ viewCode r ≡ abbreviationAt (entryLimit .most) (now (bytes .entry)) (now (rows .entry)) (now (specs .entry)) at ⌝ }
 {
@@ -277,6 +290,36 @@ fn take_entry(
         answer: Said::Entry,
         entry,
         raw: after,
+    }
+}
+
+// Past the values of an entry, from a place behind its code.
+fn pass_values(
+    raw: EntriesRaw,
+    bytes: &[u8],
+    specs: &[u64],
+    abbreviation: Abbreviation,
+    next: usize,
+) -> RawPassed
+    requires { ⌜ Onward raw next ⌝ }
+    ensures { λ r. ⌜ viewRawPassed r ≡ moves raw (raised (foundOf abbreviation .children) (raw .depth)) (passedTo (foundOf abbreviation) (endOf (readAttributes (entryLimit .most) (now (bytes .entry)) (raw .start) (raw .encoding) (raw .endian) (now (specs .entry)) (foundOf abbreviation) next))) ⌝ }
+{
+    let start = raw.start;
+    let encoding = raw.encoding;
+    let endian = raw.endian;
+    match pass_attributes(bytes, start, next, encoding, endian, abbreviation, specs) {
+        Place::At(end) => {
+            let depth = depth_after(raw.depth, abbreviation.has_children);
+            let after = moved(raw, end, depth);
+            RawPassed {
+                answer: PassedEntry::Entry(abbreviation.tag, abbreviation.count),
+                raw: after,
+            }
+        }
+        Place::Refused(e) => RawPassed {
+            answer: PassedEntry::Refused(e),
+            raw,
+        },
     }
 }
 
@@ -509,5 +552,37 @@ impl EntriesRaw {
             }
         }
         refuse(self, Error::SizeLimit)
+    }
+
+    // Past what `read_entry` would read, with nothing stored. Codes up to `n` are looked up in their
+    // own rows; with `n` up to `leading(rows)` of `abbrev` the answer is that of `read_entry`.
+    pub fn pass_entry(self, bytes: &[u8], rows: &[u64], specs: &[u64], n: usize) -> RawPassed
+        ensures { λ r. ⌜ viewRawPassed r ≡ rawPassed (entryLimit .most) n self (now (bytes .entry)) (now (rows .entry)) (now (specs .entry)) ⌝ }
+    {
+        if keeps_raw(bytes.len(), self) {
+            match code_direct(bytes, rows, specs, n, self.position) {
+                Code::Found(abbreviation, next) => {
+                    return pass_values(self, bytes, specs, abbreviation, next);
+                }
+                Code::Null(next) => {
+                    let below = depth_below(self.depth);
+                    let raw = moved(self, next, below);
+                    return RawPassed {
+                        answer: PassedEntry::Null,
+                        raw,
+                    };
+                }
+                Code::Refused(e) => {
+                    return RawPassed {
+                        answer: PassedEntry::Refused(e),
+                        raw: self,
+                    };
+                }
+            }
+        }
+        RawPassed {
+            answer: PassedEntry::Refused(Error::SizeLimit),
+            raw: self,
+        }
     }
 }

@@ -1,12 +1,11 @@
-use Rattle.abbrev.proofs.Lookups.{direct-lookup}
-use Rattle.entries.specs.Read.{abbreviationAt}
+use Rattle.entries.specs.Pass.{directAt}
 use borrow.Author.Needs.{needs}
 use borrow.Author.Tests.{eq-eqb, ne-eqb}
 use Rattle.entries.proofs.raw.code_direct.Statement.{statement}
 use Rattle.entries.proofs.raw.code_direct.Tie as tie
 
 pub code-direct-spec : {M : Type 1} → statement M
-unfolding abbreviationAt
+unfolding directAt
 code-direct-spec =
     tie.close
     (tie.spec
@@ -20,10 +19,10 @@ code-direct-spec =
     (λ c. search needs)
     (λ c. search needs)
     -- returns-2
-    (λ c. rw (← c .before .before .before .before .before .before .before .before .read-uleb128 .ensures, c .before .before .before .before .before .before .code .given .1, ne-eqb _ 0 (c .before .before .before .before .if1 .left), ← direct-lookup 64 (c .before .before .before .before .before .before .before .before .before .before .before .before .args .n) (c .before .before .before .before .before .before .before .before .before .before .before .before .args .rows .now) (c .before .before .before .before .before .before .before .before .before .before .before .before .args .specs .now) (c .before .before .before .before .before .before .code .given .0 .0) (c .before .before .before .before .before .before .before .before .before .before .before .before .pre), ← c .before .before .before .get-direct .ensures, c .before .abbreviation .given .1))
+    (λ c. rw (← c .before .before .before .before .before .before .before .before .read-uleb128 .ensures, c .before .before .before .before .before .before .code .given .1, ne-eqb _ 0 (c .before .before .before .before .if1 .left), ← c .before .before .before .get-direct .ensures, c .before .abbreviation .given .1))
     -- returns-3
-    (λ c. rw (← c .before .before .before .before .before .before .before .read-uleb128 .ensures, c .before .before .before .before .before .code .given .1, ne-eqb _ 0 (c .before .before .before .if1 .left), ← direct-lookup 64 (c .before .before .before .before .before .before .before .before .before .before .before .args .n) (c .before .before .before .before .before .before .before .before .before .before .before .args .rows .now) (c .before .before .before .before .before .before .before .before .before .before .before .args .specs .now) (c .before .before .before .before .before .code .given .0 .0) (c .before .before .before .before .before .before .before .before .before .before .before .pre), ← c .before .before .get-direct .ensures, c .enum-told .given .1))
+    (λ c. rw (← c .before .before .before .before .before .before .before .read-uleb128 .ensures, c .before .before .before .before .before .code .given .1, ne-eqb _ 0 (c .before .before .before .if1 .left), ← c .before .before .get-direct .ensures, c .enum-told .given .1))
     -- returns-4
-    (λ c. rw (← c .before .before .before .before .before .before .before .before .read-uleb128 .ensures, c .before .before .before .before .before .before .code .given .1, ne-eqb _ 0 (c .before .before .before .before .if1 .left), ← direct-lookup 64 (c .before .before .before .before .before .before .before .before .before .before .before .before .args .n) (c .before .before .before .before .before .before .before .before .before .before .before .before .args .rows .now) (c .before .before .before .before .before .before .before .before .before .before .before .before .args .specs .now) (c .before .before .before .before .before .before .code .given .0 .0) (c .before .before .before .before .before .before .before .before .before .before .before .before .pre), ← c .before .before .before .get-direct .ensures, c .before .e .given .1))
+    (λ c. rw (← c .before .before .before .before .before .before .before .before .read-uleb128 .ensures, c .before .before .before .before .before .before .code .given .1, ne-eqb _ 0 (c .before .before .before .before .if1 .left), ← c .before .before .before .get-direct .ensures, c .before .e .given .1))
     -- returns-5
     (λ c. rw (← c .before .before .before .read-uleb128 .ensures, c .before .e2 .given .1)))
