@@ -3,8 +3,8 @@ use borrow.Author.Needs.{needs}
 use lib.ListN.{length, length-set}
 use mathlib.Core.Path.{_≡_}
 use native.Mathlib.Omega.{arith}
-use Rattle.readings.proofs.pairs.Statement.{statement}
-use Rattle.readings.proofs.pairs.Tie as tie
+use Rattle.readings.proofs.tables.table.Statement.{statement}
+use Rattle.readings.proofs.tables.table.Tie as tie
 
 abbrev Inv-loop : tie.InvT-loop
 Inv-loop n section₀ i₀ section i = (i ≤ n) × (length section ≡ 140)
@@ -12,8 +12,8 @@ Inv-loop n section₀ i₀ section i = (i ≤ n) × (length section ≡ 140)
 abbrev μ-loop : tie.MeasureT-loop
 μ-loop n section₀ i₀ section i = n - i
 
-pub pairs-spec : {M : Type 1} → statement M
-pairs-spec =
+pub table-spec : {M : Type 1} → statement M
+table-spec =
     tie.close
     (tie.spec
     Inv-loop

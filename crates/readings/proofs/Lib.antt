@@ -1,0 +1,2 @@
+-- The marked readings of document 01, proved.
+pub mod Marked
