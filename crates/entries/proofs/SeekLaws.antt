@@ -130,6 +130,7 @@ module _ (most : ℕ) (s rows specs : List ℕ) where
     pub read : next w ≡ got item
     pub raw-is : x .raw ≡ movedTo w (item .next) (depthPast most s rows specs w)
     pub entry-is : x .entry ≡ item .value
+    pub said-is : x .answer ≡ got (not (isNull (item .value)))
 
   module _ (w : EntriesRaw) (k : KeptRaw (length s) w) {x : Taken} (e : x ≡ rawEntry most w s rows specs) where
     read-by : x ≡ takenFrom most w (depthPast most s rows specs w) (next w)
@@ -140,7 +141,7 @@ module _ (most : ℕ) (s rows specs : List ℕ) where
     was-read {b} h = go (next w) refl read-by
       where
         go : (r : Answer (Read Entry)) → next w ≡ r → x ≡ takenFrom most w (depthPast most s rows specs w) r → WasRead w x
-        go (got i) q f = record { item = i; read = q; raw-is = ap (λ (y : Taken). y .raw) f; entry-is = ap (λ (y : Taken). y .entry) f }
+        go (got i) q f = record { item = i; read = q; raw-is = ap (λ (y : Taken). y .raw) f; entry-is = ap (λ (y : Taken). y .entry) f; said-is = ap (λ (y : Taken). y .answer) f }
         go (refused n) q f =
             let a : got b ≡ refused n = sym h ∙ ap (λ (y : Taken). y .answer) f in
             let z : _≡_ {A = ℕ} 0 1 = cc in

@@ -1,0 +1,6 @@
+-- Laws that several proofs cite.
+pub mod TextLaws
+pub mod ListLaws
+pub mod UnitLaws
+pub mod PartLaws
+pub mod WholeLaws

@@ -1,0 +1,266 @@
+-- Laws of the lines of items.
+use mathlib.Core.Bool.{Bool, true, false, not, cond}
+use mathlib.Core.Path.{_≡_, refl, sym, ap, _∙_, subst}
+use mathlib.Core.List.{List, [], _∷_, _++_, append-assoc, append-nil}
+use mathlib.Core.Option.{Option, none, some}
+use Prim.Native.Nat.{ℕ, zero, suc, _+_, _-_, _*_, _^_, _≤_, _<_}
+use native.Mathlib.Omega.{arith}
+use borrow.Author.Tests.{le-leb, lt-leb}
+use lib.Dec.{leb}
+use lib.IntN.{ℤ, pos, negsuc, natAbs}
+use lib.Signed.{mag}
+use lib.ListN.{length, length-append}
+use Rattle.reader.specs.Answer.{Answer, got, refused, Read, Holds}
+use Rattle.entries.specs.Cursor.{depthPast, itemNext}
+use Rattle.entries.specs.Entry.{Entry, isNull}
+use Rattle.entries.specs.Pass.{Passed, toldOf, told}
+use Rattle.entries.specs.Raw.{movedTo, sourceOf, Moved, rawEntry}
+use Rattle.entries.specs.Read.{Source, entryAt, afterEntry}
+use Rattle.entries.specs.Steps.{KeptRaw}
+use Rattle.entries.specs.declared.raw.EntriesRaw.{EntriesRaw}
+use Rattle.entries.proofs.FlatLaws.{Stands, entry-stands}
+use Rattle.entries.proofs.SeekLaws.{stands, item-kept, was-read, was-refused}
+use Rattle.listing.specs.Listing.{orStop, itemLine, itemsWithin, itemLines}
+use Rattle.listing.specs.Text.{Line, entryLine, nullLine, refusedLine, text, Put}
+use Rattle.listing.specs.Written.{texts, room, Written}
+use Rattle.listing.proofs.TextLaws.{put-none, put-then}
+
+-- ---- the definition without its count
+
+module _ (most : ℕ) (src : Source) (s rows specs : List ℕ) where
+  stop-same : (r : Answer (Read Entry)) (f g : Read Entry → List Line) → Holds (λ i. f i ≡ g i) r → orStop r f ≡ orStop r g
+  stop-same (got i) f g h = h
+  stop-same (refused n) f g h = refl
+
+  further : (at : ℕ) (d : ℤ) → Holds (λ i. at < i .next) (entryAt most src s rows specs at d)
+  further at d = go (entryAt most src s rows specs at d) (entry-stands most src s rows specs at d)
+    where
+      go : (r : Answer (Read Entry)) → Holds (Stands most src s rows specs at d) r → Holds (λ i. at < i .next) r
+      go (got i) z = z .above
+      go (refused n) z = tt
+
+  follow : (n m : ℕ) (at : ℕ) (d : ℤ) (rest : List Line) → length s ≤ suc n + at → length s ≤ suc m + at
+      → ((i : Read Entry) → length s ≤ n + i .next → length s ≤ m + i .next → itemsWithin most src s rows specs n (i .next) (afterEntry (i .value)) rest ≡ itemsWithin most src s rows specs m (i .next) (afterEntry (i .value)) rest)
+      → orStop (entryAt most src s rows specs at d) (λ i. itemLine (i .value) ∷ itemsWithin most src s rows specs n (i .next) (afterEntry (i .value)) rest)
+      ≡ orStop (entryAt most src s rows specs at d) (λ i. itemLine (i .value) ∷ itemsWithin most src s rows specs m (i .next) (afterEntry (i .value)) rest)
+  follow n m at d rest h k f = go (entryAt most src s rows specs at d) (further at d)
+    where
+      go : (r : Answer (Read Entry)) → Holds (λ i. at < i .next) r
+          → orStop r (λ i. itemLine (i .value) ∷ itemsWithin most src s rows specs n (i .next) (afterEntry (i .value)) rest)
+          ≡ orStop r (λ i. itemLine (i .value) ∷ itemsWithin most src s rows specs m (i .next) (afterEntry (i .value)) rest)
+      go (got i) z = ap (λ (l : List Line). itemLine (i .value) ∷ l) (f i (omega arith) (omega arith))
+      go (refused n) z = refl
+
+  same-within : (n m : ℕ) (at : ℕ) (d : ℤ) (rest : List Line) → length s ≤ n + at → length s ≤ m + at
+      → itemsWithin most src s rows specs n at d rest ≡ itemsWithin most src s rows specs m at d rest
+  unfolding itemsWithin
+  same-within zero zero at d rest h k = refl
+  same-within zero (suc m) at d rest h k = rw (le-leb (length s) at (omega arith))
+  same-within (suc n) zero at d rest h k = rw (le-leb (length s) at (omega arith))
+  same-within (suc n) (suc m) at d rest h k =
+      ap (cond (leb (length s) at) rest) (follow n m at d rest h k (λ i a b. same-within n m (i .next) (afterEntry (i .value)) rest a b))
+
+  pub lines-step : (at : ℕ) (d : ℤ) (rest : List Line)
+      → itemLines most src s rows specs at d rest
+      ≡ cond (leb (length s) at) rest (orStop (entryAt most src s rows specs at d) (λ i. itemLine (i .value) ∷ itemLines most src s rows specs (i .next) (afterEntry (i .value)) rest))
+  unfolding itemLines itemsWithin
+  lines-step at d rest =
+      let n = length s - at in
+      same-within n (suc n) at d rest (omega arith) (omega arith)
+      ∙ ap (cond (leb (length s) at) rest) (go (entryAt most src s rows specs at d) (further at d))
+    where
+      go : (r : Answer (Read Entry)) → Holds (λ i. at < i .next) r
+          → orStop r (λ i. itemLine (i .value) ∷ itemsWithin most src s rows specs (length s - at) (i .next) (afterEntry (i .value)) rest)
+          ≡ orStop r (λ i. itemLine (i .value) ∷ itemsWithin most src s rows specs (length s - i .next) (i .next) (afterEntry (i .value)) rest)
+      go (got i) z = ap (λ (l : List Line). itemLine (i .value) ∷ l) (same-within (length s - at) (length s - i .next) (i .next) (afterEntry (i .value)) rest (omega arith) (omega arith))
+      go (refused n) z = refl
+
+-- ---- texts
+
+pub texts-more : (ls : List Line) (l : Line) → texts (ls ++ (l ∷ [])) ≡ texts ls ++ text l
+texts-more [] l = append-nil (text l)
+texts-more (x ∷ xs) l = ap (λ (t : List ℕ). text x ++ t) (texts-more xs l) ∙ sym (append-assoc (text x) (texts xs) (text l))
+
+pub put-line : {before middle after : List ℕ} {at p q : ℕ} (ls : List Line) (l : Line) → Put before middle at p (texts ls) → Put middle after p q (text l) → Put before after at q (texts (ls ++ (l ∷ [])))
+put-line {before} {middle} {after} {at} {p} {q} ls l a b = subst (Put before after at q) (sym (texts-more ls l)) (put-then a b)
+
+pub texts-append : (ls ms : List Line) → texts (ls ++ ms) ≡ texts ls ++ texts ms
+texts-append [] ms = refl
+texts-append (x ∷ xs) ms = ap (λ (t : List ℕ). text x ++ t) (texts-append xs ms) ∙ sym (append-assoc (text x) (texts xs) (texts ms))
+
+pub put-lines : {before middle after : List ℕ} {at p q : ℕ} (ls ms : List Line) → Put before middle at p (texts ls) → Put middle after p q (texts ms) → Put before after at q (texts (ls ++ ms))
+put-lines {before} {middle} {after} {at} {p} {q} ls ms a b = subst (Put before after at q) (sym (texts-append ls ms)) (put-then a b)
+
+-- ---- lines that fit
+
+mag-le : (d : ℤ) → mag d ≤ natAbs d
+mag-le (pos n) = omega arith
+mag-le (negsuc n) = omega arith
+
+-- the depth of a state that keeps 01's sizes
+pub kept-mag : (count : ℕ) (w : EntriesRaw) → KeptRaw count w → mag (w .depth) < 2 ^ 63
+kept-mag count w k = omega (arith, mag-le (w .depth), k .near, k .inside, k .short)
+
+pub kept-offset : (count : ℕ) (w : EntriesRaw) → KeptRaw count w → w .start + w .position < 2 ^ 64
+kept-offset count w k = omega (arith, k .inside, k .short)
+
+-- ---- the loop over items
+
+module _ (most : ℕ) (s rows specs : List ℕ) where
+  abbrev linesFrom : EntriesRaw → List Line → List Line
+  linesFrom w rest = itemLines most (sourceOf w) s rows specs (w .position) (w .depth) rest
+
+  -- lines that are written, and those still to come
+  pub record Going (out₀ : List ℕ) (at : ℕ) (raw : EntriesRaw) (out : List ℕ) (here : EntriesRaw) (end : ℕ) : Type 0 where
+    pub done : List Line
+    pub kept : KeptRaw (length s) here
+    pub from : raw .position ≤ here .position
+    pub same : length out ≡ length out₀
+    pub put : Put out₀ out at end (texts done)
+    pub bound : end ≤ at + room * length done
+    pub few : length done ≤ here .position - raw .position
+    pub is : (rest : List Line) → linesFrom raw rest ≡ done ++ linesFrom here rest
+
+  pub going-begun : (out : List ℕ) (at : ℕ) (raw : EntriesRaw) → KeptRaw (length s) raw → Going out at raw out raw at
+  going-begun out at raw k =
+      record { done = []; kept = k; from = omega arith; same = refl; put = put-none out at; bound = omega arith; few = omega arith; is = λ rest. refl }
+
+  -- the item that is read next, as a line
+  line-read : (w : EntriesRaw) (i : Read Entry) (rest : List Line) → w .position < length s → itemNext most s rows specs w ≡ got i
+      → linesFrom w rest ≡ itemLine (i .value) ∷ linesFrom (movedTo w (i .next) (depthPast most s rows specs w)) rest
+  line-read w i rest h e =
+      let z : Stands most (sourceOf w) s rows specs (w .position) (w .depth) i = rw e at (stands most s rows specs w) in
+      lines-step most (sourceOf w) s rows specs (w .position) (w .depth) rest
+      ∙ rw (lt-leb (length s) (w .position) h, e)
+      (ap (λ (d : ℤ). itemLine (i .value) ∷ itemLines most (sourceOf w) s rows specs (i .next) d rest) (sym (z .after)))
+
+  -- what is told of an item gives its line
+  abbrev pub lineFor : EntriesRaw → Option Passed → Line
+  lineFor w none = nullLine (w .start + w .position) (w .depth)
+  lineFor w (some p) = entryLine (w .start + w .position) (w .depth) (p .tag) (p .count)
+
+  line-by : (w : EntriesRaw) (e : Entry) (b : Bool) (o : Option Passed) → isNull e ≡ b → toldOf (got (not b)) e ≡ got o → e .offset ≡ w .start + w .position → e .depth ≡ w .depth → itemLine e ≡ lineFor w o
+  line-by w e true none q t x y =
+      ap (λ (c : Bool). cond c (nullLine (e .offset) (e .depth)) (entryLine (e .offset) (e .depth) (e .tag) (e .count))) q
+      ∙ ap (λ (n : ℕ). nullLine n (e .depth)) x ∙ ap (λ (d : ℤ). nullLine (w .start + w .position) d) y
+  line-by w e true (some p) q t x y = absurd (let z : _≡_ {A = ℕ} 0 1 = cc in omega arith)
+  line-by w e false none q t x y = absurd (let z : _≡_ {A = ℕ} 0 1 = cc in omega arith)
+  line-by w e false (some p) q t x y =
+      let z : _≡_ {A = Passed} (record { tag = e .tag; count = e .count }) p = cc in
+      ap (λ (c : Bool). cond c (nullLine (e .offset) (e .depth)) (entryLine (e .offset) (e .depth) (e .tag) (e .count))) q
+      ∙ ap (λ (n : ℕ). entryLine n (e .depth) (e .tag) (e .count)) x
+      ∙ ap (λ (d : ℤ). entryLine (w .start + w .position) d (e .tag) (e .count)) y
+      ∙ ap (λ (r : Passed). entryLine (w .start + w .position) (w .depth) (r .tag) (r .count)) z
+
+  -- an item that was told
+  pub record ItemTold (w : EntriesRaw) (x : Moved (Option Passed)) (o : Option Passed) : Type 0 where
+    pub item : Read Entry
+    pub read : itemNext most s rows specs w ≡ got item
+    pub raw-is : x .raw ≡ movedTo w (item .next) (depthPast most s rows specs w)
+    pub line-is : itemLine (item .value) ≡ lineFor w o
+
+  module _ (w : EntriesRaw) (k : KeptRaw (length s) w) {x : Moved (Option Passed)} (e : x ≡ told (rawEntry most w s rows specs)) where
+    pub item-told : {o : Option Passed} → x .answer ≡ got o → ItemTold w x o
+    item-told {o} h = go (rawEntry most w s rows specs .answer) refl
+      where
+        t : toldOf (rawEntry most w s rows specs .answer) (rawEntry most w s rows specs .entry) ≡ got o
+        t = sym (ap (λ (y : Moved (Option Passed)). y .answer) e) ∙ h
+
+        there : {b : Bool} → rawEntry most w s rows specs .answer ≡ got b → ItemTold w x o
+        there q =
+            let z = was-read most s rows specs w k refl q in
+            let v : Stands most (sourceOf w) s rows specs (w .position) (w .depth) (z .item) = rw (z .read) at (stands most s rows specs w) in
+            record {
+              item = z .item;
+              read = z .read;
+              raw-is = ap (λ (y : Moved (Option Passed)). y .raw) e ∙ z .raw-is;
+              line-is =
+                  line-by w (z .item .value) (isNull (z .item .value)) o refl
+                  (sym (ap (λ (a : Answer Bool). toldOf a (z .item .value)) (z .said-is)) ∙ sym (ap (toldOf (rawEntry most w s rows specs .answer)) (z .entry-is)) ∙ t)
+                  (v .offset) (v .depth);
+            }
+
+        go : (a : Answer Bool) → rawEntry most w s rows specs .answer ≡ a → ItemTold w x o
+        go (got b) q = there q
+        go (refused n) q = absurd (let f : toldOf (refused n) (rawEntry most w s rows specs .entry) ≡ got o = sym (ap (λ (a : Answer Bool). toldOf a (rawEntry most w s rows specs .entry)) q) ∙ t in let z : _≡_ {A = ℕ} 0 1 = cc in omega arith)
+
+    pub item-refused : {n : ℕ} → x .answer ≡ refused n → itemNext most s rows specs w ≡ refused n
+    item-refused {n} h = go (rawEntry most w s rows specs .answer) refl
+      where
+        t : toldOf (rawEntry most w s rows specs .answer) (rawEntry most w s rows specs .entry) ≡ refused n
+        t = sym (ap (λ (y : Moved (Option Passed)). y .answer) e) ∙ h
+
+        by : (a : Answer Bool) → rawEntry most w s rows specs .answer ≡ a → toldOf a (rawEntry most w s rows specs .entry) ≡ refused n → itemNext most s rows specs w ≡ refused n
+        by (got true) q f = absurd (let z : _≡_ {A = ℕ} 0 1 = cc in omega arith)
+        by (got false) q f = absurd (let z : _≡_ {A = ℕ} 0 1 = cc in omega arith)
+        by (refused m) q f = let z : m ≡ n = cc in was-refused most s rows specs w k refl q ∙ ap refused z
+
+        go : (a : Answer Bool) → rawEntry most w s rows specs .answer ≡ a → itemNext most s rows specs w ≡ refused n
+        go a q = by a q (sym (ap (λ (b : Answer Bool). toldOf b (rawEntry most w s rows specs .entry)) q) ∙ t)
+
+  module _ {out₀ : List ℕ} {at : ℕ} {raw : EntriesRaw} {out : List ℕ} {here : EntriesRaw} {end : ℕ} (t : Going out₀ at raw out here end) where
+    more : (l : Line) → length (t .done ++ (l ∷ [])) ≡ length (t .done) + 1
+    more l = length-append (t .done) (l ∷ [])
+
+    -- one more line
+    pub going-further : {x : Moved (Option Passed)} {o : Option Passed} {out' : List ℕ} {r : ℕ}
+        → here .position < length s → x ≡ told (rawEntry most here s rows specs) → x .answer ≡ got o → length out' ≡ length out
+        → Put out out' end r (text (lineFor here o)) → length (text (lineFor here o)) ≤ room → Going out₀ at raw out' (x .raw) r
+    going-further {x} {o} {out'} {r} h e a l p f =
+        let z = item-told here (t .kept) e a in
+        let v : Stands most (sourceOf here) s rows specs (here .position) (here .depth) (z .item) = rw (z .read) at (stands most s rows specs here) in
+        let k = item-kept most s rows specs here (z .item) (t .kept) (z .read) in
+        let w = movedTo here (z .item .next) (depthPast most s rows specs here) in
+        subst (λ (y : EntriesRaw). Going out₀ at raw out' y r) (sym (z .raw-is))
+        (record {
+          done = t .done ++ (lineFor here o ∷ []);
+          kept = k;
+          from = omega (arith, t .from, v .above);
+          same = l ∙ t .same;
+          put = put-line (t .done) (lineFor here o) (t .put) p;
+          bound = omega (arith, t .bound, p .ends, f, more (lineFor here o));
+          few = omega (arith, t .few, t .from, v .above, more (lineFor here o));
+          is = λ rest.
+              t .is rest ∙ ap (λ (ls : List Line). t .done ++ ls) (line-read here (z .item) rest h (z .read) ∙ ap (λ (m : Line). m ∷ linesFrom w rest) (z .line-is))
+              ∙ sym (append-assoc (t .done) (lineFor here o ∷ []) (linesFrom w rest));
+        })
+
+    -- a refusal is the last line
+    pub going-stopped : {x : Moved (Option Passed)} {n : ℕ} {out' : List ℕ} {r : ℕ}
+        → here .position < length s → x ≡ told (rawEntry most here s rows specs) → x .answer ≡ refused n
+        → Put out out' end r (text (refusedLine n)) → length (text (refusedLine n)) ≤ room
+        → Written out₀ out' at (length s - raw .position) (linesFrom raw) (record { end = r; stopped = true })
+    going-stopped {x} {n} {out'} {r} h e a p f =
+        record {
+          lines = t .done ++ (refusedLine n ∷ []);
+          put = put-line (t .done) (refusedLine n) (t .put) p;
+          most = omega (arith, t .bound, p .ends, f, more (refusedLine n));
+          few = omega (arith, t .few, t .kept .inside, more (refusedLine n));
+          is = λ rest.
+              t .is rest
+              ∙ ap (λ (ls : List Line). t .done ++ ls)
+              (lines-step most (sourceOf here) s rows specs (here .position) (here .depth) rest
+              ∙ rw (lt-leb (length s) (here .position) h, item-refused here (t .kept) e a))
+              ∙ sym (append-nil (t .done ++ (refusedLine n ∷ [])));
+        }
+
+    -- no item is left
+    pub going-ended : length s ≤ here .position → Written out₀ out at (length s - raw .position) (linesFrom raw) (record { end = end; stopped = false })
+    going-ended h =
+        record {
+          lines = t .done;
+          put = t .put;
+          most = t .bound;
+          few = omega (arith, t .few, t .kept .inside);
+          is = λ rest.
+              t .is rest
+              ∙ ap (λ (ls : List Line). t .done ++ ls) (lines-step most (sourceOf here) s rows specs (here .position) (here .depth) rest ∙ rw (le-leb (length s) (here .position) h));
+        }
+
+    -- reading goes on further behind
+    pub going-less : {x : Moved (Option Passed)} {o : Option Passed} → x ≡ told (rawEntry most here s rows specs) → x .answer ≡ got o → here .position < x .raw .position
+    going-less {x} {o} e a =
+        let z = item-told here (t .kept) e a in
+        let v : Stands most (sourceOf here) s rows specs (here .position) (here .depth) (z .item) = rw (z .read) at (stands most s rows specs here) in
+        let p = ap (λ (w : EntriesRaw). w .position) (z .raw-is) in
+        omega (arith, p, v .above)

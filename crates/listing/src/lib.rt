@@ -1,0 +1,5 @@
+// The lines of `shelflist`, as bytes in a lent buffer.
+
+pub mod input; // the two sections out of an input
+pub mod list; // the listing of two sections
+mod text; // numbers and words written
