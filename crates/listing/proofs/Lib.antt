@@ -1,5 +1,6 @@
 -- Laws that several proofs cite.
 pub mod TextLaws
+pub mod PieceLaws
 pub mod ListLaws
 pub mod UnitLaws
 pub mod PartLaws

@@ -21,9 +21,12 @@ use Rattle.entries.specs.declared.raw.EntriesRaw.{EntriesRaw}
 use Rattle.entries.proofs.FlatLaws.{Stands, entry-stands}
 use Rattle.entries.proofs.SeekLaws.{stands, item-kept, was-read, was-refused}
 use Rattle.listing.specs.Listing.{orStop, itemLine, itemsWithin, itemLines}
-use Rattle.listing.specs.Text.{Line, entryLine, nullLine, refusedLine, text, Put}
-use Rattle.listing.specs.Written.{texts, room, Written}
-use Rattle.listing.proofs.TextLaws.{put-none, put-then}
+use Rattle.listing.specs.Piece.{Part, partOf, adds}
+use Rattle.listing.specs.Text.{Line, entryLine, nullLine, refusedLine}
+use Rattle.listing.specs.Written.{Held, Added, Written, refusal}
+use Rattle.listing.specs.declared.list.Wrote.{Wrote}
+use Rattle.listing.specs.declared.piece.Piece.{Piece}
+use Rattle.listing.proofs.PieceLaws.{added-in, written-in, adds-full, full-or}
 
 -- ---- the definition without its count
 
@@ -75,22 +78,6 @@ module _ (most : ℕ) (src : Source) (s rows specs : List ℕ) where
       go (got i) z = ap (λ (l : List Line). itemLine (i .value) ∷ l) (same-within (length s - at) (length s - i .next) (i .next) (afterEntry (i .value)) rest (omega arith) (omega arith))
       go (refused n) z = refl
 
--- ---- texts
-
-pub texts-more : (ls : List Line) (l : Line) → texts (ls ++ (l ∷ [])) ≡ texts ls ++ text l
-texts-more [] l = append-nil (text l)
-texts-more (x ∷ xs) l = ap (λ (t : List ℕ). text x ++ t) (texts-more xs l) ∙ sym (append-assoc (text x) (texts xs) (text l))
-
-pub put-line : {before middle after : List ℕ} {at p q : ℕ} (ls : List Line) (l : Line) → Put before middle at p (texts ls) → Put middle after p q (text l) → Put before after at q (texts (ls ++ (l ∷ [])))
-put-line {before} {middle} {after} {at} {p} {q} ls l a b = subst (Put before after at q) (sym (texts-more ls l)) (put-then a b)
-
-pub texts-append : (ls ms : List Line) → texts (ls ++ ms) ≡ texts ls ++ texts ms
-texts-append [] ms = refl
-texts-append (x ∷ xs) ms = ap (λ (t : List ℕ). text x ++ t) (texts-append xs ms) ∙ sym (append-assoc (text x) (texts xs) (texts ms))
-
-pub put-lines : {before middle after : List ℕ} {at p q : ℕ} (ls ms : List Line) → Put before middle at p (texts ls) → Put middle after p q (texts ms) → Put before after at q (texts (ls ++ ms))
-put-lines {before} {middle} {after} {at} {p} {q} ls ms a b = subst (Put before after at q) (sym (texts-append ls ms)) (put-then a b)
-
 -- ---- lines that fit
 
 mag-le : (d : ℤ) → mag d ≤ natAbs d
@@ -110,20 +97,15 @@ module _ (most : ℕ) (s rows specs : List ℕ) where
   abbrev linesFrom : EntriesRaw → List Line → List Line
   linesFrom w rest = itemLines most (sourceOf w) s rows specs (w .position) (w .depth) rest
 
-  -- lines that are written, and those still to come
-  pub record Going (out₀ : List ℕ) (at : ℕ) (raw : EntriesRaw) (out : List ℕ) (here : EntriesRaw) (end : ℕ) : Type 0 where
-    pub done : List Line
+  -- lines that were added, and those still to come
+  pub record Going (out₀ : List ℕ) (p : Piece) (raw : EntriesRaw) (out : List ℕ) (here : EntriesRaw) (q : Piece) : Type 0 where
     pub kept : KeptRaw (length s) here
-    pub from : raw .position ≤ here .position
     pub same : length out ≡ length out₀
-    pub put : Put out₀ out at end (texts done)
-    pub bound : end ≤ at + room * length done
-    pub few : length done ≤ here .position - raw .position
-    pub is : (rest : List Line) → linesFrom raw rest ≡ done ++ linesFrom here rest
+    pub held : Held (length out) q
+    pub is : (rest : List Line) → adds (length out₀) (partOf p out₀) (linesFrom raw rest) ≡ adds (length out₀) (partOf q out) (linesFrom here rest)
 
-  pub going-begun : (out : List ℕ) (at : ℕ) (raw : EntriesRaw) → KeptRaw (length s) raw → Going out at raw out raw at
-  going-begun out at raw k =
-      record { done = []; kept = k; from = omega arith; same = refl; put = put-none out at; bound = omega arith; few = omega arith; is = λ rest. refl }
+  pub going-begun : (out : List ℕ) (p : Piece) (raw : EntriesRaw) → KeptRaw (length s) raw → Held (length out) p → Going out p raw out raw p
+  going-begun out p raw k h = record { kept = k; same = refl; held = h; is = λ rest. refl }
 
   -- the item that is read next, as a line
   line-read : (w : EntriesRaw) (i : Read Entry) (rest : List Line) → w .position < length s → itemNext most s rows specs w ≡ got i
@@ -198,64 +180,49 @@ module _ (most : ℕ) (s rows specs : List ℕ) where
         go : (a : Answer Bool) → rawEntry most w s rows specs .answer ≡ a → itemNext most s rows specs w ≡ refused n
         go a q = by a q (sym (ap (λ (b : Answer Bool). toldOf b (rawEntry most w s rows specs .entry)) q) ∙ t)
 
-  module _ {out₀ : List ℕ} {at : ℕ} {raw : EntriesRaw} {out : List ℕ} {here : EntriesRaw} {end : ℕ} (t : Going out₀ at raw out here end) where
-    more : (l : Line) → length (t .done ++ (l ∷ [])) ≡ length (t .done) + 1
-    more l = length-append (t .done) (l ∷ [])
+  module _ {out₀ : List ℕ} {p : Piece} {raw : EntriesRaw} {out : List ℕ} {here : EntriesRaw} {q : Piece} (t : Going out₀ p raw out here q) where
+    abbrev part : Part
+    part = partOf q out
 
     -- one more line
-    pub going-further : {x : Moved (Option Passed)} {o : Option Passed} {out' : List ℕ} {r : ℕ}
+    pub going-further : {x : Moved (Option Passed)} {o : Option Passed} {out' : List ℕ} {r : Piece}
         → here .position < length s → x ≡ told (rawEntry most here s rows specs) → x .answer ≡ got o → length out' ≡ length out
-        → Put out out' end r (text (lineFor here o)) → length (text (lineFor here o)) ≤ room → Going out₀ at raw out' (x .raw) r
-    going-further {x} {o} {out'} {r} h e a l p f =
+        → Added out out' q (lineFor here o) r → Going out₀ p raw out' (x .raw) r
+    going-further {x} {o} {out'} {r} h e a l d =
         let z = item-told here (t .kept) e a in
-        let v : Stands most (sourceOf here) s rows specs (here .position) (here .depth) (z .item) = rw (z .read) at (stands most s rows specs here) in
         let k = item-kept most s rows specs here (z .item) (t .kept) (z .read) in
         let w = movedTo here (z .item .next) (depthPast most s rows specs here) in
-        subst (λ (y : EntriesRaw). Going out₀ at raw out' y r) (sym (z .raw-is))
+        let line = lineFor here o in
+        subst (λ (y : EntriesRaw). Going out₀ p raw out' y r) (sym (z .raw-is))
         (record {
-          done = t .done ++ (lineFor here o ∷ []);
           kept = k;
-          from = omega (arith, t .from, v .above);
           same = l ∙ t .same;
-          put = put-line (t .done) (lineFor here o) (t .put) p;
-          bound = omega (arith, t .bound, p .ends, f, more (lineFor here o));
-          few = omega (arith, t .few, t .from, v .above, more (lineFor here o));
+          held = d .held;
           is = λ rest.
-              t .is rest ∙ ap (λ (ls : List Line). t .done ++ ls) (line-read here (z .item) rest h (z .read) ∙ ap (λ (m : Line). m ∷ linesFrom w rest) (z .line-is))
-              ∙ sym (append-assoc (t .done) (lineFor here o ∷ []) (linesFrom w rest));
+              t .is rest
+              ∙ ap (adds (length out₀) part) (line-read here (z .item) rest h (z .read) ∙ ap (λ (m : Line). m ∷ linesFrom w rest) (z .line-is))
+              ∙ ap (λ (y : Part). adds (length out₀) y (linesFrom w rest)) (added-in (t .same) d);
         })
 
     -- a refusal is the last line
-    pub going-stopped : {x : Moved (Option Passed)} {n : ℕ} {out' : List ℕ} {r : ℕ}
+    pub going-stopped : {x : Moved (Option Passed)} {n : ℕ} {out' : List ℕ} {r : Wrote}
         → here .position < length s → x ≡ told (rawEntry most here s rows specs) → x .answer ≡ refused n
-        → Put out out' end r (text (refusedLine n)) → length (text (refusedLine n)) ≤ room
-        → Written out₀ out' at (length s - raw .position) (linesFrom raw) (record { end = r; stopped = true })
-    going-stopped {x} {n} {out'} {r} h e a p f =
-        record {
-          lines = t .done ++ (refusedLine n ∷ []);
-          put = put-line (t .done) (refusedLine n) (t .put) p;
-          most = omega (arith, t .bound, p .ends, f, more (refusedLine n));
-          few = omega (arith, t .few, t .kept .inside, more (refusedLine n));
-          is = λ rest.
-              t .is rest
-              ∙ ap (λ (ls : List Line). t .done ++ ls)
-              (lines-step most (sourceOf here) s rows specs (here .position) (here .depth) rest
-              ∙ rw (lt-leb (length s) (here .position) h, item-refused here (t .kept) e a))
-              ∙ sym (append-nil (t .done ++ (refusedLine n ∷ [])));
-        }
+        → Written out out' q (refusal n) r → Written out₀ out' p (linesFrom raw) r
+    going-stopped {x} {n} {out'} {r} h e a w =
+        let f : (rest : List Line) → linesFrom here rest ≡ refusal n rest =
+        λ rest. lines-step most (sourceOf here) s rows specs (here .position) (here .depth) rest ∙ rw (lt-leb (length s) (here .position) h, item-refused here (t .kept) e a) in
+        record { held = w .held; is = λ rest. t .is rest ∙ ap (adds (length out₀) part) (f rest) ∙ written-in (t .same) w rest }
+
+    -- a full piece
+    pub going-full : q .full ≡ true → Written out₀ out p (linesFrom raw) (record { piece = q; stopped = true })
+    going-full e = record { held = t .held; is = λ rest. t .is rest ∙ adds-full (length out₀) part (linesFrom here rest) e }
 
     -- no item is left
-    pub going-ended : length s ≤ here .position → Written out₀ out at (length s - raw .position) (linesFrom raw) (record { end = end; stopped = false })
+    pub going-ended : length s ≤ here .position → Written out₀ out p (linesFrom raw) (record { piece = q; stopped = q .full })
     going-ended h =
-        record {
-          lines = t .done;
-          put = t .put;
-          most = t .bound;
-          few = omega (arith, t .few, t .kept .inside);
-          is = λ rest.
-              t .is rest
-              ∙ ap (λ (ls : List Line). t .done ++ ls) (lines-step most (sourceOf here) s rows specs (here .position) (here .depth) rest ∙ rw (le-leb (length s) (here .position) h));
-        }
+        let f : (rest : List Line) → linesFrom here rest ≡ rest =
+        λ rest. lines-step most (sourceOf here) s rows specs (here .position) (here .depth) rest ∙ rw (le-leb (length s) (here .position) h) in
+        record { held = t .held; is = λ rest. t .is rest ∙ ap (adds (length out₀) part) (f rest) ∙ full-or (length out₀) part rest }
 
     -- reading goes on further behind
     pub going-less : {x : Moved (Option Passed)} {o : Option Passed} → x ≡ told (rawEntry most here s rows specs) → x .answer ≡ got o → here .position < x .raw .position

@@ -23,16 +23,13 @@ use Rattle.unit.specs.declared.header.UnitHeader.{UnitHeader}
 use Rattle.unit.proofs.RangeLaws.{part-there}
 use Rattle.entries.specs.Read.{Source}
 use Rattle.listing.specs.Listing.{orStop, headLine, itemLines, tableRows, tableSpecs, entriesIn, sourceFor, partLines, Shelf, unitEntries, unitAll}
-use Rattle.listing.specs.Text.{Line, unitLine, refusedLine, text, Put}
-use Rattle.listing.specs.Written.{room, Written, Stopped, Fit}
+use Rattle.listing.specs.Piece.{Part, partOf, add, adds}
+use Rattle.listing.specs.Text.{Line, unitLine}
+use Rattle.listing.specs.Written.{Held, Added, Written, refusal, Fit}
 use Rattle.listing.specs.declared.list.Wrote.{Wrote}
-use Rattle.listing.proofs.ListLaws.{put-line}
-use Rattle.listing.proofs.TextLaws.{put-none, put-then}
-use Rattle.listing.proofs.UnitLaws.{laid-lines, size-some}
-
--- one line
-abbrev single : Line → List Line
-single l = l ∷ []
+use Rattle.listing.specs.declared.piece.Piece.{Piece}
+use Rattle.listing.proofs.PieceLaws.{adds-full, written-in}
+use Rattle.listing.proofs.UnitLaws.{laid-lines}
 
 -- ---- the entries of a unit
 
@@ -44,10 +41,11 @@ module _ (abbrevs : List ℕ) (m k : ℕ) (h : UnitHeader) (s : List ℕ) where
   table = abbreviationsAt abbrevs (h .«debug_abbrev_offset») entryLimit (m / 5) (k / 3)
 
   -- without entry bytes
-  pub part-none : (out : List ℕ) (at : ℕ) → length s ≡ 0 → Written out out at (length s) lines (record { end = at; stopped = false })
+  pub part-none : (out : List ℕ) (p : Piece) → length s ≡ 0 → Held (length out) p → Written out out p lines (record { piece = p; stopped = false })
   unfolding partLines
-  part-none out at e =
-      record { lines = []; put = put-none out at; most = omega arith; few = omega arith; is = λ rest. rw (eq-eqb (length s) 0 e) }
+  part-none out p e h =
+      let f : (rest : List Line) → lines rest ≡ rest = λ rest. rw (eq-eqb (length s) 0 e) in
+      record { held = h; is = λ rest. ap (adds (length out) (partOf p out)) (f rest) }
 
   module _ (some : length s ≡ 0 → ⊥) where
     after-table : (rest : List Line) → lines rest ≡ orStop table (λ t. itemLines (entryLimit .most) (sourceFor h) s (tableRows m t) (tableSpecs k t) 0 (pos 0) rest)
@@ -55,34 +53,27 @@ module _ (abbrevs : List ℕ) (m k : ℕ) (h : UnitHeader) (s : List ℕ) where
     after-table rest = rw (ne-eqb (length s) 0 some)
 
     -- a table that was read
-    pub part-items : (rows specs : List ℕ) {out out' : List ℕ} {at n count : ℕ} {src : Source} {r : Wrote} → count ≤ length s → src ≡ sourceFor h → andThen table (λ t. got (length t)) ≡ got n → Left m k rows specs table
-        → Written out out' at count (itemLines (entryLimit .most) src s rows specs 0 (pos 0)) r → Written out out' at (length s) lines r
-    part-items rows specs {out} {out'} {at} {n} {count} {src} {r} b q e l w =
-        record { lines = w .lines; put = w .put; most = w .most; few = omega (arith, w .few, b); is = λ rest. after-table rest ∙ go rest table e l (sound abbrevs (h .«debug_abbrev_offset») entryLimit (m / 5) (k / 3)) }
+    pub part-items : (rows specs : List ℕ) {out out' : List ℕ} {p : Piece} {n : ℕ} {src : Source} {r : Wrote} → src ≡ sourceFor h → andThen table (λ t. got (length t)) ≡ got n → Left m k rows specs table
+        → Written out out' p (itemLines (entryLimit .most) src s rows specs 0 (pos 0)) r → Written out out' p lines r
+    part-items rows specs {out} {out'} {p} {n} {src} {r} q e l w =
+        record { held = w .held; is = λ rest. ap (adds (length out) (partOf p out)) (after-table rest ∙ go rest table e l (sound abbrevs (h .«debug_abbrev_offset») entryLimit (m / 5) (k / 3))) ∙ w .is rest }
       where
         go : (rest : List Line) (a : Answer (List Declaration)) → andThen a (λ t. got (length t)) ≡ got n → Left m k rows specs a → Holds (Sound (entryLimit .most)) a
-            → orStop a (λ t. itemLines (entryLimit .most) (sourceFor h) s (tableRows m t) (tableSpecs k t) 0 (pos 0) rest) ≡ w .lines ++ cond (r .stopped) [] rest
+            → orStop a (λ t. itemLines (entryLimit .most) (sourceFor h) s (tableRows m t) (tableSpecs k t) 0 (pos 0) rest) ≡ itemLines (entryLimit .most) src s rows specs 0 (pos 0) rest
         go rest (got t) f L S =
             sym (laid-lines (entryLimit .most) (sourceFor h) s S L 0 (pos 0) rest)
-            ∙ ap (λ (x : Source). itemLines (entryLimit .most) x s rows specs 0 (pos 0) rest) (sym q) ∙ w .is rest
+            ∙ ap (λ (x : Source). itemLines (entryLimit .most) x s rows specs 0 (pos 0) rest) (sym q)
         go rest (refused j) f L S = absurd (let z : _≡_ {A = ℕ} 0 1 = cc in omega arith)
 
     -- a table that was refused
-    pub part-refused : {out out' : List ℕ} {at n : ℕ} {r : Wrote} → andThen table (λ t. got (length t)) ≡ refused n → Stopped out out' at n r → Written out out' at (length s) lines r
-    part-refused {out} {out'} {at} {n} {r} e w =
-        let c : _≡_ {A = ℕ} (cond (r .stopped) 1 0) 1 = ap {B = ℕ} (λ (b : Bool). cond b 1 0) (w .is) in
-        record {
-          lines = single (refusedLine n);
-          put = put-line [] (refusedLine n) (put-none out at) (w .put);
-          most = omega (arith, w .most);
-          few = omega (arith, c);
-          is = λ rest. after-table rest ∙ go rest table e ∙ ap (λ (b : Bool). single (refusedLine n) ++ cond b [] rest) (sym (w .is));
-        }
+    pub part-refused : {out out' : List ℕ} {p : Piece} {n : ℕ} {r : Wrote} → andThen table (λ t. got (length t)) ≡ refused n → Written out out' p (refusal n) r → Written out out' p lines r
+    part-refused {out} {out'} {p} {n} {r} e w =
+        record { held = w .held; is = λ rest. ap (adds (length out) (partOf p out)) (after-table rest ∙ go rest table e) ∙ w .is rest }
       where
         go : (rest : List Line) (a : Answer (List Declaration)) → andThen a (λ t. got (length t)) ≡ refused n
-            → orStop a (λ t. itemLines (entryLimit .most) (sourceFor h) s (tableRows m t) (tableSpecs k t) 0 (pos 0) rest) ≡ single (refusedLine n) ++ []
+            → orStop a (λ t. itemLines (entryLimit .most) (sourceFor h) s (tableRows m t) (tableSpecs k t) 0 (pos 0) rest) ≡ refusal n rest
         go rest (got t) f = absurd (let z : _≡_ {A = ℕ} 0 1 = cc in omega arith)
-        go rest (refused j) f = let z : j ≡ n = cc in ap (λ (i : ℕ). single (refusedLine i)) z
+        go rest (refused j) f = let z : j ≡ n = cc in ap (λ (i : ℕ). refusal i rest) z
 
 -- ---- a unit's bytes
 
@@ -115,31 +106,24 @@ module _ (info : List ℕ) (h : UnitHeader) (f : Fit (length info) h) {u s : Lis
   entries-short = omega (arith, buf .1, f .there)
 
   -- what is written of them is what is written of the unit
-  pub unit-written : (abbrevs : List ℕ) (i k : ℕ) {out out' : List ℕ} {at : ℕ} {r : Wrote} → Written out out' at (length s) (partLines abbrevs i k h s) r
-      → Written out out' at (unitEnd h - sizeOfHeader h) (unitEntries (record { abbrevs = abbrevs; info = info; rows = i; specs = k }) h) r
+  pub unit-written : (abbrevs : List ℕ) (i k : ℕ) {out out' : List ℕ} {p : Piece} {r : Wrote} → Written out out' p (partLines abbrevs i k h s) r
+      → Written out out' p (unitEntries (record { abbrevs = abbrevs; info = info; rows = i; specs = k }) h) r
   unfolding unitEntries
-  unit-written abbrevs i k w =
-      record {
-        lines = w .lines;
-        put = w .put;
-        most = w .most;
-        few = omega (arith, w .few, buf .1);
-        is = λ rest. ap (λ (x : Answer (List ℕ)). orStop x (λ y. partLines abbrevs i k h y rest)) entries-there ∙ w .is rest;
-      }
+  unit-written abbrevs i k {out} {out'} {p} w =
+      record { held = w .held; is = λ rest. ap (λ (x : Answer (List ℕ)). adds (length out) (partOf p out) (orStop x (λ y. partLines abbrevs i k h y rest))) entries-there ∙ w .is rest }
 
 -- ---- a unit with its first line
 
-pub one-written : (x : Shelf) (h : UnitHeader) {out out' out'' : List ℕ} {at p : ℕ} {r : Wrote} (l : Line) → l ≡ headLine h → sizeOfHeader h ≤ unitEnd h
-    → Put out out' at p (text l) → length (text l) ≤ room
-    → Written out' out'' p (unitEnd h - sizeOfHeader h) (unitEntries x h) r → Written out out'' at (unitEnd h) (unitAll x h) r
-one-written x h {r = r} l e k p f w =
-    record {
-      lines = l ∷ w .lines;
-      put = put-then p (w .put);
-      most = omega (arith, w .most, p .ends, f);
-      few = omega (arith, w .few, size-some h, k);
-      is = λ rest. ap (λ (ls : List Line). headLine h ∷ ls) (w .is rest) ∙ ap (λ (m : Line). m ∷ (w .lines ++ cond (r .stopped) [] rest)) (sym e);
-    }
+module _ (x : Shelf) (h : UnitHeader) {out out' : List ℕ} {p q : Piece} (l : Line) (e : l ≡ headLine h) (s : length out' ≡ length out) (d : Added out out' p l q) where
+  first-added : add (length out) (partOf p out) (headLine h) ≡ partOf q out'
+  first-added = ap (add (length out) (partOf p out)) (sym e) ∙ sym (d .is)
+
+  pub one-written : {out'' : List ℕ} {r : Wrote} → Written out' out'' q (unitEntries x h) r → Written out out'' p (unitAll x h) r
+  one-written w = record { held = w .held; is = λ rest. ap (λ (y : Part). adds (length out) y (unitEntries x h rest)) first-added ∙ written-in s w rest }
+
+  -- its line filled the piece
+  pub one-full : q .full ≡ true → Written out out' p (unitAll x h) (record { piece = q; stopped = true })
+  one-full f = record { held = d .held; is = λ rest. ap (λ (y : Part). adds (length out) y (unitEntries x h rest)) first-added ∙ adds-full (length out) (partOf q out') (unitEntries x h rest) f }
 
 -- a header's line from its questions
 pub head-is : (h : UnitHeader) {o v b w : ℕ} → o ≡ h .offset → v ≡ h .encoding .version → b ≡ wordSize (h .encoding .format) → w ≡ h .encoding .«address_size» → unitLine o v (8 * b) w ≡ headLine h

@@ -120,6 +120,15 @@ text-most (nullLine offset depth) (a, b) = simp length-append (omega (arith, dec
 text-most (refusedLine n) a = simp length-append (omega (arith, decimal-most n a))
 text-most endLine a = omega arith
 
+-- each has a byte
+pub text-some : (l : Line) → 0 < length (text l)
+unfolding text
+text-some (unitLine offset version bits width) = simp length-append (omega arith)
+text-some (entryLine offset depth tag count) = simp length-append (omega arith)
+text-some (nullLine offset depth) = simp length-append (omega arith)
+text-some (refusedLine n) = simp length-append (omega arith)
+text-some endLine = omega arith
+
 -- where it ends
 pub line-ends : {a b : List ℕ} {at r : ℕ} (l : Line) → Fitted l → Put a b at r (text l) → r ≤ at + 72
 line-ends l f p = omega (arith, text-most l f, p .ends)

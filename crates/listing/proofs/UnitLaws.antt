@@ -27,11 +27,12 @@ use Rattle.unit.proofs.ParseLaws.{HeaderIn, header-in}
 use Rattle.entries.specs.Entry.{Entry}
 use Rattle.entries.specs.Read.{Source, known, abbreviationAt, entryAt, entryAfter, afterEntry}
 use Rattle.listing.specs.Listing.{orStop, headLine, itemLine, itemsWithin, itemLines, tableRows, tableSpecs, Shelf, unitEntries, unitAll, unitsWithin, unitLines, listing}
-use Rattle.listing.specs.Text.{Line, endLine, refusedLine, text, Put}
-use Rattle.listing.specs.Written.{texts, room, Written}
+use Rattle.listing.specs.Piece.{partOf, adds}
+use Rattle.listing.specs.Text.{Line, endLine, refusedLine}
+use Rattle.listing.specs.Written.{Held, Added, Written, Whole}
 use Rattle.listing.specs.declared.list.Wrote.{Wrote}
-use Rattle.listing.proofs.ListLaws.{put-line, put-lines}
-use Rattle.listing.proofs.TextLaws.{put-none}
+use Rattle.listing.specs.declared.piece.Piece.{Piece}
+use Rattle.listing.proofs.PieceLaws.{added-in, written-in}
 
 -- ---- tables: whichever row holds which declaration, the lines are the same
 
@@ -167,37 +168,33 @@ module _ (x : Shelf) where
       units-same (length (x .info) - at) (suc (length (x .info) - behind at)) (behind at) (w .there) (omega arith) (omega arith))
 
 -- as many lent words, the same lines
-pub written-same : (x : Shelf) (h : UnitHeader) {i k count at : ℕ} {out out' : List ℕ} {r : Wrote} → i ≡ x .rows → k ≡ x .specs
-    → Written out out' at count (unitAll (record { abbrevs = x .abbrevs; info = x .info; rows = i; specs = k }) h) r → Written out out' at count (unitAll x h) r
-written-same x h {i} {k} {count} {at} {out} {out'} {r} p q w =
-    subst (λ (n : ℕ). Written out out' at count (unitAll (record { abbrevs = x .abbrevs; info = x .info; rows = x .rows; specs = n }) h) r) q
-    (subst (λ (n : ℕ). Written out out' at count (unitAll (record { abbrevs = x .abbrevs; info = x .info; rows = n; specs = k }) h) r) p w)
+pub written-same : (x : Shelf) (h : UnitHeader) {i k : ℕ} {p : Piece} {out out' : List ℕ} {r : Wrote} → i ≡ x .rows → k ≡ x .specs
+    → Written out out' p (unitAll (record { abbrevs = x .abbrevs; info = x .info; rows = i; specs = k }) h) r → Written out out' p (unitAll x h) r
+written-same x h {i} {k} {p} {out} {out'} {r} e f w =
+    subst (λ (n : ℕ). Written out out' p (unitAll (record { abbrevs = x .abbrevs; info = x .info; rows = x .rows; specs = n }) h) r) f
+    (subst (λ (n : ℕ). Written out out' p (unitAll (record { abbrevs = x .abbrevs; info = x .info; rows = n; specs = k }) h) r) e w)
 
 -- ---- the loop over units
 
 module _ (x : Shelf) where
-  -- lines that are written, and those still to come
-  pub record Shelved (out₀ out : List ℕ) (at end : ℕ) : Type 0 where
-    pub done : List Line
+  -- lines that were added, and those still to come
+  pub record Shelved (out₀ : List ℕ) (p : Piece) (out : List ℕ) (at : ℕ) (q : Piece) : Type 0 where
     pub inside : at ≤ length (x .info)
     pub same : length out ≡ length out₀
-    pub put : Put out₀ out 0 end (texts done)
-    pub bound : end ≤ room * length done
-    pub few : length done ≤ at
-    pub is : listing x ≡ done ++ unitLines x at
+    pub held : Held (length out) q
+    pub is : adds (length out₀) (partOf p out₀) (listing x) ≡ adds (length out₀) (partOf q out) (unitLines x at)
 
-  pub shelved-begun : (out : List ℕ) → Shelved out out 0 0
-  shelved-begun out =
-      record { done = []; inside = omega arith; same = refl; put = put-none out 0; bound = omega arith; few = omega arith; is = refl }
+  pub shelved-begun : (out : List ℕ) (p : Piece) → Held (length out) p → Shelved out p out 0 p
+  shelved-begun out p h = record { inside = omega arith; same = refl; held = h; is = refl }
 
-  pub shelved-at : {out₀ out : List ℕ} {a b end : ℕ} → a ≡ b → Shelved out₀ out a end → Shelved out₀ out b end
-  shelved-at {out₀} {out} {a} {b} {end} e t = subst (λ (n : ℕ). Shelved out₀ out n end) e t
+  pub shelved-at : {out₀ out : List ℕ} {p q : Piece} {a b : ℕ} → a ≡ b → Shelved out₀ p out a q → Shelved out₀ p out b q
+  shelved-at {out₀} {out} {p} {q} e t = subst (λ (n : ℕ). Shelved out₀ p out n q) e t
 
-  module _ {out₀ out : List ℕ} {at end : ℕ} (t : Shelved out₀ out at end) where
+  module _ {out₀ : List ℕ} {p : Piece} {out : List ℕ} {at : ℕ} {q : Piece} (t : Shelved out₀ p out at q) where
     -- the last line
-    pub shelved-last : {out' : List ℕ} {r : ℕ} (l : Line) → unitLines x at ≡ l ∷ [] → Put out out' end r (text l) → Put out₀ out' 0 r (texts (listing x))
-    shelved-last {out'} {r} l e p =
-        subst (λ (ls : List Line). Put out₀ out' 0 r (texts ls)) (sym (t .is ∙ ap (λ (ls : List Line). t .done ++ ls) e)) (put-line (t .done) l (t .put) p)
+    pub shelved-last : {out' : List ℕ} {r : Piece} (l : Line) → unitLines x at ≡ l ∷ [] → Added out out' q l r → Whole out₀ out' p (listing x) r
+    shelved-last {out'} {r} l e d =
+        record { held = d .held; is = sym (t .is ∙ ap (adds (length out₀) (partOf q out)) e ∙ added-in (t .same) d) }
 
     pub last-none : answerAt x at ≡ got none → unitLines x at ≡ endLine ∷ []
     last-none e = units-step x at (t .inside) ∙ rw e
@@ -205,33 +202,17 @@ module _ (x : Shelf) where
     pub last-refused : {n : ℕ} → answerAt x at ≡ refused n → unitLines x at ≡ refusedLine n ∷ []
     last-refused e = units-step x at (t .inside) ∙ rw e
 
-    module _ {h : UnitHeader} (e : answerAt x at ≡ got (some h)) {out' : List ℕ} {r : Wrote} (w : Written out out' end (unitEnd h) (unitAll x h) r) where
-      unit-lines : unitLines x at ≡ w .lines ++ cond (r .stopped) [] (unitLines x (behind x at))
-      unit-lines = units-step x at (t .inside) ∙ rw e (w .is (unitLines x (behind x at)))
+    module _ {h : UnitHeader} (e : answerAt x at ≡ got (some h)) {out' : List ℕ} {r : Wrote} (w : Written out out' q (unitAll x h) r) where
+      together : adds (length out₀) (partOf p out₀) (listing x) ≡ cond (r .stopped) (partOf (r .piece) out') (adds (length out₀) (partOf (r .piece) out') (unitLines x (behind x at)))
+      together =
+          let f : unitLines x at ≡ unitAll x h (unitLines x (behind x at)) = units-step x at (t .inside) ∙ rw e in
+          t .is ∙ ap (adds (length out₀) (partOf q out)) f ∙ written-in (t .same) w (unitLines x (behind x at))
 
-      together : listing x ≡ (t .done ++ w .lines) ++ cond (r .stopped) [] (unitLines x (behind x at))
-      together = t .is ∙ ap (λ (ls : List Line). t .done ++ ls) unit-lines ∙ sym (append-assoc (t .done) (w .lines) _)
+      by-stop : {b : Bool} → r .stopped ≡ b → adds (length out₀) (partOf p out₀) (listing x) ≡ cond b (partOf (r .piece) out') (adds (length out₀) (partOf (r .piece) out') (unitLines x (behind x at)))
+      by-stop {b} f = together ∙ ap (λ (c : Bool). cond c (partOf (r .piece) out') (adds (length out₀) (partOf (r .piece) out') (unitLines x (behind x at)))) f
 
-      put-both : Put out₀ out' 0 (r .end) (texts (t .done ++ w .lines))
-      put-both = put-lines (t .done) (w .lines) (t .put) (w .put)
+      pub shelved-stopped : r .stopped ≡ true → Whole out₀ out' p (listing x) (r .piece)
+      shelved-stopped f = record { held = w .held; is = sym (by-stop f) }
 
-      pub shelved-stopped : r .stopped ≡ true → Put out₀ out' 0 (r .end) (texts (listing x))
-      shelved-stopped q =
-          subst (λ (ls : List Line). Put out₀ out' 0 (r .end) (texts ls))
-          (sym (together ∙ ap (λ (b : Bool). (t .done ++ w .lines) ++ cond b [] (unitLines x (behind x at))) q ∙ append-nil (t .done ++ w .lines))) put-both
-
-      pub shelved-further : r .stopped ≡ false → length out' ≡ length out → Shelved out₀ out' (behind x at) (r .end)
-      shelved-further q l =
-          let z = unit-in (x .info) at e in
-          let n = length-append (t .done) (w .lines) in
-          let m = w .few in
-          let c : _≡_ {A = ℕ} (cond (r .stopped) 1 0) 0 = ap {B = ℕ} (λ (b : Bool). cond b 1 0) q in
-          record {
-            done = t .done ++ w .lines;
-            inside = z .there;
-            same = l ∙ t .same;
-            put = put-both;
-            bound = omega (arith, t .bound, w .most, n);
-            few = omega (arith, t .few, m, c, n, z .next-is);
-            is = together ∙ ap (λ (b : Bool). (t .done ++ w .lines) ++ cond b [] (unitLines x (behind x at))) q;
-          }
+      pub shelved-further : r .stopped ≡ false → length out' ≡ length out → Shelved out₀ p out' (behind x at) (r .piece)
+      shelved-further f l = record { inside = unit-in (x .info) at e .there; same = l ∙ t .same; held = w .held; is = by-stop f }

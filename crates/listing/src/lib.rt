@@ -2,4 +2,5 @@
 
 pub mod input; // the two sections out of an input
 pub mod list; // the listing of two sections
+mod piece; // lines held in a piece
 mod text; // numbers and words written

@@ -2,36 +2,30 @@
 
 ghost use mathlib.Core.List.{_++_};
 ghost use mathlib.Core.Path.{_≡_};
-ghost use Prim.Native.Nat.{_+_, _-_, _*_, _≤_};
+ghost use Prim.Native.Nat.{_-_, _≤_};
 ghost use lib.ListN.{length, take, replicate};
 ghost use Rattle.reader.specs.Sizes.{maxSection};
 ghost use Rattle.abbrev.specs.Table.{entryLimit};
-ghost use Rattle.unit.specs.Header.{sizeOfHeader, unitEnd};
 ghost use Rattle.entries.specs.Raw.{sourceOf};
 ghost use Rattle.entries.specs.Steps.{KeptRaw};
 ghost use Rattle.listing.specs.Listed.{ListedAs};
 ghost use Rattle.listing.specs.Listing.{itemLines, partLines, unitEntries, unitAll, listing};
-ghost use Rattle.listing.specs.Text.{Put};
-ghost use Rattle.listing.specs.Written.{texts, room, Written, Stopped, Fit};
-use super::text::put_end;
-use super::text::put_entry;
-use super::text::put_null;
-use super::text::put_refused;
-use super::text::put_unit;
+ghost use Rattle.listing.specs.Written.{Held, Written, Whole, refusal, Fit};
+use super::piece::Piece;
+use super::text::Line;
 use abbrev::lookup::leading;
 use abbrev::rows::wipe;
 use abbrev::table::Abbreviations;
 use entries::raw::EntriesRaw;
 use entries::raw::PassedEntry;
 use reader::endianity::RunTimeEndian;
-use reader::error::Error;
 use unit::header::UnitHeader;
 use unit::units::DebugInfo;
 use unit::units::NextUnit;
 
-// Where the text ends, and whether a refusal stopped it.
+// A piece, and whether nothing follows in it: after a refusal, or where it is full.
 pub struct Wrote {
-    pub end: usize,
+    pub piece: Piece,
     pub stopped: bool,
 }
 
@@ -42,16 +36,22 @@ fn list_items(
     rows: &[u64],
     specs: &[u64],
     out: &mut [u8],
-    at: usize,
+    piece: Piece,
 ) -> Wrote
     requires { ⌜ KeptRaw (length (now bytes)) raw ⌝ }
-    requires { ⌜ at + room * (length (now bytes) - raw .position + 1) ≤ length (now out) ⌝ }
-    ensures { λ r. ⌜ Written (now (out .entry)) (now (out .exit)) at (length (now (bytes .entry)) - raw .position) (itemLines (entryLimit .most) (sourceOf raw) (now (bytes .entry)) (now (rows .entry)) (now (specs .entry)) (raw .position) (raw .depth)) r ⌝ }
+    requires { ⌜ Held (length (now out)) piece ⌝ }
+    ensures { λ r. ⌜ Written (now (out .entry)) (now (out .exit)) piece (itemLines (entryLimit .most) (sourceOf raw) (now (bytes .entry)) (now (rows .entry)) (now (specs .entry)) (raw .position) (raw .depth)) r ⌝ }
 {
     let n = leading(rows);
     let mut here = raw;
-    let mut end = at;
+    let mut held = piece;
     while here.position < bytes.len() {
+        if held.full {
+            return Wrote {
+                piece: held,
+                stopped: true,
+            };
+        }
         let offset = here.start + here.position;
         let depth = here.depth;
         let passed = here.pass_entry(bytes, rows, specs, n);
@@ -59,25 +59,21 @@ fn list_items(
         let after = passed.raw;
         match answer {
             PassedEntry::Entry(tag, count) => {
-                end = put_entry(out, end, offset, depth, tag, count);
+                held = held.add(out, Line::Entry(offset, depth, tag, count));
                 here = after;
             }
             PassedEntry::Null => {
-                end = put_null(out, end, offset, depth);
+                held = held.add(out, Line::Null(offset, depth));
                 here = after;
             }
             PassedEntry::Refused(e) => {
-                let last = put_refused(out, end, e.number());
-                return Wrote {
-                    end: last,
-                    stopped: true,
-                };
+                return stop(out, held, e.number());
             }
         }
     }
     Wrote {
-        end,
-        stopped: false,
+        piece: held,
+        stopped: held.full,
     }
 }
 
@@ -94,12 +90,15 @@ fn clear(out: &mut [u8], from: usize)
 }
 
 // A refusal is the last line.
-fn stop(out: &mut [u8], at: usize, number: u64) -> Wrote
-    requires { ⌜ at + room ≤ length (now out) ⌝ }
-    ensures { λ r. ⌜ Stopped (now (out .entry)) (now (out .exit)) at number r ⌝ }
+fn stop(out: &mut [u8], piece: Piece, number: u64) -> Wrote
+    requires { ⌜ Held (length (now out)) piece ⌝ }
+    ensures { λ r. ⌜ Written (now (out .entry)) (now (out .exit)) piece (refusal number) r ⌝ }
 {
-    let end = put_refused(out, at, number);
-    Wrote { end, stopped: true }
+    let last = piece.add(out, Line::Refused(number));
+    Wrote {
+        piece: last,
+        stopped: true,
+    }
 }
 
 // A unit's entries, out of their bytes.
@@ -110,15 +109,15 @@ fn list_part(
     rows: &mut [u64],
     specs: &mut [u64],
     out: &mut [u8],
-    at: usize,
+    piece: Piece,
 ) -> Wrote
     requires { ⌜ length (now bytes) ≤ maxSection ⌝ }
-    requires { ⌜ at + room * (length (now bytes) + 1) ≤ length (now out) ⌝ }
-    ensures { λ r. ⌜ Written (now (out .entry)) (now (out .exit)) at (length (now (bytes .entry))) (partLines (now (abbrevs .entry)) (length (now (rows .entry))) (length (now (specs .entry))) header (now (bytes .entry))) r ⌝ }
+    requires { ⌜ Held (length (now out)) piece ⌝ }
+    ensures { λ r. ⌜ Written (now (out .entry)) (now (out .exit)) piece (partLines (now (abbrevs .entry)) (length (now (rows .entry))) (length (now (specs .entry))) header (now (bytes .entry))) r ⌝ }
 {
     if bytes.len() == 0 {
         return Wrote {
-            end: at,
+            piece,
             stopped: false,
         };
     }
@@ -133,9 +132,9 @@ fn list_part(
                 encoding,
                 endian: RunTimeEndian::Little,
             };
-            list_items(raw, bytes, rows, specs, out, at)
+            list_items(raw, bytes, rows, specs, out, piece)
         }
-        Abbreviations::Refused(e) => stop(out, at, e.number()),
+        Abbreviations::Refused(e) => stop(out, piece, e.number()),
     }
 }
 
@@ -147,16 +146,16 @@ fn list_unit(
     rows: &mut [u64],
     specs: &mut [u64],
     out: &mut [u8],
-    at: usize,
+    piece: Piece,
 ) -> Wrote
     requires { ⌜ Fit (length (now info)) header ⌝ }
-    requires { ⌜ at + room * (unitEnd header - sizeOfHeader header + 1) ≤ length (now out) ⌝ }
-    ensures { λ r. ⌜ Written (now (out .entry)) (now (out .exit)) at (unitEnd header - sizeOfHeader header) (unitEntries (record { abbrevs = now (abbrevs .entry); info = now (info .entry); rows = length (now (rows .entry)); specs = length (now (specs .entry)) }) header) r ⌝ }
+    requires { ⌜ Held (length (now out)) piece ⌝ }
+    ensures { λ r. ⌜ Written (now (out .entry)) (now (out .exit)) piece (unitEntries (record { abbrevs = now (abbrevs .entry); info = now (info .entry); rows = length (now (rows .entry)); specs = length (now (specs .entry)) }) header) r ⌝ }
 {
     let mut refusal: u64 = 0;
     let unit = header.bytes(info, &mut refusal);
     let bytes = header.entries_buf(unit, &mut refusal);
-    list_part(header, bytes, abbrevs, rows, specs, out, at)
+    list_part(header, bytes, abbrevs, rows, specs, out, piece)
 }
 
 // A unit: its line, then its entries.
@@ -167,81 +166,97 @@ fn list_one(
     rows: &mut [u64],
     specs: &mut [u64],
     out: &mut [u8],
-    at: usize,
+    piece: Piece,
 ) -> Wrote
     requires { ⌜ Fit (length (now info)) header ⌝ }
-    requires { ⌜ at + room * (unitEnd header + 1) ≤ length (now out) ⌝ }
-    ensures { λ r. ⌜ Written (now (out .entry)) (now (out .exit)) at (unitEnd header) (unitAll (record { abbrevs = now (abbrevs .entry); info = now (info .entry); rows = length (now (rows .entry)); specs = length (now (specs .entry)) }) header) r ⌝ }
+    requires { ⌜ Held (length (now out)) piece ⌝ }
+    ensures { λ r. ⌜ Written (now (out .entry)) (now (out .exit)) piece (unitAll (record { abbrevs = now (abbrevs .entry); info = now (info .entry); rows = length (now (rows .entry)); specs = length (now (specs .entry)) }) header) r ⌝ }
 {
     let offset = header.offset();
     let version = header.version();
     let format = header.format();
     let width = header.address_size();
     let bits = 8 * (format.word_size() as u64);
-    let first = put_unit(out, at, offset, version, bits, width);
+    let first = piece.add(out, Line::Unit(offset, version, bits, width));
+    if first.full {
+        return Wrote {
+            piece: first,
+            stopped: true,
+        };
+    }
     list_unit(header, info, abbrevs, rows, specs, out, first)
 }
 
-// All units. There is room for a line for each byte and one more.
+// All units.
 fn list_units(
     abbrevs: &[u8],
     info: &[u8],
     rows: &mut [u64],
     specs: &mut [u64],
     out: &mut [u8],
-) -> usize
-    requires { ⌜ room * (length (now info) + 1) ≤ length (now out) ⌝ }
-    ensures { λ r. ⌜ Put (now (out .entry)) (now (out .exit)) 0 r (texts (listing (record { abbrevs = now (abbrevs .entry); info = now (info .entry); rows = length (now (rows .entry)); specs = length (now (specs .entry)) }))) ⌝ }
+    piece: Piece,
+) -> Piece
+    requires { ⌜ Held (length (now out)) piece ⌝ }
+    ensures { λ r. ⌜ Whole (now (out .entry)) (now (out .exit)) piece (listing (record { abbrevs = now (abbrevs .entry); info = now (info .entry); rows = length (now (rows .entry)); specs = length (now (specs .entry)) })) r ⌝ }
 {
     let mut units = DebugInfo::units();
-    let mut end: usize = 0;
+    let mut held = piece;
     while units.offset <= info.len() {
         let next = units.next(info, RunTimeEndian::Little);
         let unit = next.unit;
         let after = next.units;
         match unit {
             NextUnit::Header(header) => {
-                let wrote = list_one(header, info, abbrevs, rows, specs, out, end);
+                let wrote = list_one(header, info, abbrevs, rows, specs, out, held);
                 if wrote.stopped {
-                    return wrote.end;
+                    return wrote.piece;
                 }
-                end = wrote.end;
+                held = wrote.piece;
                 units = after;
             }
             NextUnit::NoMore => {
-                return put_end(out, end);
+                return held.add(out, Line::End);
             }
             NextUnit::Refused(e) => {
-                return put_refused(out, end, e.number());
+                return held.add(out, Line::Refused(e.number()));
             }
         }
     }
-    end
+    held
 }
 
-pub enum Listed {
-    Got(usize),
-    Refused(Error),
+// What a piece has: how many bytes and lines, and whether there are lines behind it.
+pub struct Listed {
+    pub bytes: usize,
+    pub lines: usize,
+    pub more: bool,
 }
 
-// The listing of two sections: how many bytes of `out` it has. Refused with 1, and `out` is kept,
-// where there is no room for a line of 72 bytes for each byte of the units and one more. Both row
-// slices are zero afterwards.
+// The lines of the listing of two sections from line `first` on, counted from 0, that `out` has room
+// for; a line is begun where there is room for the longest, of 72 bytes. Zeros follow them, and both
+// row slices are zero afterwards.
 pub fn list(
     abbrevs: &[u8],
     info: &[u8],
     rows: &mut [u64],
     specs: &mut [u64],
+    first: usize,
     out: &mut [u8],
 ) -> Listed
-    ensures { λ r. ⌜ ListedAs (now (abbrevs .entry)) (now (info .entry)) (now (rows .entry)) (now (specs .entry)) (now (out .entry)) (now (rows .exit)) (now (specs .exit)) (now (out .exit)) r ⌝ }
+    ensures { λ r. ⌜ ListedAs (now (abbrevs .entry)) (now (info .entry)) (now (rows .entry)) (now (specs .entry)) first (now (out .entry)) (now (rows .exit)) (now (specs .exit)) (now (out .exit)) r ⌝ }
 {
-    if out.len() / 72 <= info.len() {
-        wipe(rows, specs);
-        return Listed::Refused(Error::SizeLimit);
-    }
-    let end = list_units(abbrevs, info, rows, specs, out);
+    let none = Piece {
+        skip: first,
+        lines: 0,
+        end: 0,
+        full: false,
+    };
+    let piece = list_units(abbrevs, info, rows, specs, out, none);
     wipe(rows, specs);
-    clear(out, end);
-    Listed::Got(end)
+    clear(out, piece.end);
+    Listed {
+        bytes: piece.end,
+        lines: piece.lines,
+        more: piece.full,
+    }
 }

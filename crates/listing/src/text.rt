@@ -8,6 +8,16 @@ ghost use Prim.Native.Nat.{_+_, _≤_, _<_};
 ghost use lib.ListN.{length};
 ghost use Rattle.listing.specs.Text.{digit, numeral, signedNumeral, place, unitLine, entryLine, nullLine, refusedLine, endLine, text, Put};
 
+pub enum Line {
+    // offset, version, format bits, address width
+    Unit(usize, u16, u64, u8),
+    // offset, depth, tag, value count
+    Entry(usize, i64, u16, usize),
+    Null(usize, i64),
+    Refused(u64),
+    End,
+}
+
 fn digit_of(d: u64) -> u8
     requires { ⌜ d < 36 ⌝ }
     ensures { λ r. ⌜ r ≡ digit d ⌝ }

@@ -1,11 +1,8 @@
-use Rattle.listing.proofs.PartLaws.{one-written, head-is}
-use Rattle.listing.proofs.TextLaws.{text-most, line-ends}
-use Rattle.listing.proofs.UnitLaws.{size-some}
+use Rattle.listing.proofs.PartLaws.{one-written, one-full, head-is}
 use Rattle.listing.specs.Text.{unitLine}
 use Rattle.reader.specs.Fields.{wordSize}
 use borrow.Author.Needs.{needs}
 use mathlib.Core.Path.{ap, _∙_}
-use native.Mathlib.Omega.{arith}
 use Rattle.listing.proofs.list.list_one.Statement.{statement}
 use Rattle.listing.proofs.list.list_one.Tie as tie
 
@@ -20,16 +17,19 @@ list-one-spec =
     (λ c κs. search needs)
     (λ c. search needs)
     (λ c. search needs)
-    -- put-unit-requires
-    (λ c κs. omega (arith, c .before .before .before .before .before .before .before .before .before .before .before .pre .1))
-    -- list-unit-requires
-    (λ c κs.
-    let e = line-ends (unitLine _ _ _ _) (c .before .before .before .before .before .before .before .before .before .before .before .offset .ok, c .before .before .before .before .before .before .before .before .before .before .version .ok, omega (arith, c .before .before .before .before .before .before .before .word-size .ok), c .before .before .before .before .before .before .before .before .address-size .ok) (c .before .before .before .before .before .put-unit .ensures) in
-    (c .before .before .before .before .before .before .before .before .before .before .before .before .before .before .before .before .before .pre .0, omega (arith, e, c .before .before .before .before .before .before .before .before .before .before .before .before .before .before .before .before .before .pre .1, c .before .before .before .before .before .put-unit .kept .0, size-some (c .before .before .before .before .before .before .before .before .before .before .before .before .before .before .before .before .before .args .header), c .before .before .before .before .before .before .before .before .before .before .before .before .before .before .before .before .before .pre .0 .header)))
-    (λ c. search needs)
-    (λ c. search needs)
+    -- add-requires
+    (λ c κs. c .before .before .before .before .before .before .before .before .before .before .before .pre .1)
     (λ c. search needs)
     -- returns
     (λ c.
-    let a = c .before .before .before .before .before .before .before .before .before .before .before .before .before .before .before .before .before .before .before .before .before .before .before .before .args in
-    one-written _ (a .header) (unitLine _ _ _ _) (head-is (a .header) (c .before .before .before .before .before .before .before .before .before .before .before .before .before .before .before .before .before .before .offset .ensures) (c .before .before .before .before .before .before .before .before .before .before .before .before .before .before .before .before .before .version .ensures) (c .before .before .before .before .before .before .before .before .before .before .before .before .before .before .word-size .ensures ∙ ap wordSize (c .before .before .before .before .before .before .before .before .before .before .before .before .before .before .before .before .format .ensures)) (c .before .before .before .before .before .before .before .before .before .before .before .before .before .before .before .address-size .ensures)) (c .before .before .before .before .before .before .before .before .before .before .before .before .before .before .before .before .before .before .before .before .before .before .before .before .pre .0 .header) (c .before .before .before .before .before .before .before .before .before .before .before .before .put-unit .ensures) (text-most (unitLine _ _ _ _) (c .before .before .before .before .before .before .before .before .before .before .before .before .before .before .before .before .before .before .offset .ok, c .before .before .before .before .before .before .before .before .before .before .before .before .before .before .before .before .before .version .ok, omega (arith, c .before .before .before .before .before .before .before .before .before .before .before .before .before .before .word-size .ok), c .before .before .before .before .before .before .before .before .before .before .before .before .before .before .before .address-size .ok)) (c .before .before .before .before .before .before .list-unit .ensures)))
+    let a = c .before .before .before .before .before .before .before .before .before .before .before .before .before .before .before .args in
+    one-full _ (a .header) (unitLine _ _ _ _) (head-is (a .header) (c .before .before .before .before .before .before .before .before .before .offset .ensures) (c .before .before .before .before .before .before .before .before .version .ensures) (c .before .before .before .before .before .word-size .ensures ∙ ap wordSize (c .before .before .before .before .before .before .before .format .ensures)) (c .before .before .before .before .before .before .address-size .ensures)) (c .before .before .before .add .kept .1 .0) (c .before .before .before .add .ensures) (c .if1 .taken))
+    -- list-unit-requires
+    (λ c κs. (c .before .before .before .before .before .before .before .before .before .before .before .before .before .before .before .before .before .before .pre .0, c .before .before .before .before .before .before .add .ensures .held))
+    (λ c. search needs)
+    (λ c. search needs)
+    (λ c. search needs)
+    -- returns-2
+    (λ c.
+    let a = c .before .before .before .before .before .before .before .before .before .before .before .before .before .before .before .before .before .before .before .before .before .before .before .before .before .args in
+    one-written _ (a .header) (unitLine _ _ _ _) (head-is (a .header) (c .before .before .before .before .before .before .before .before .before .before .before .before .before .before .before .before .before .before .before .offset .ensures) (c .before .before .before .before .before .before .before .before .before .before .before .before .before .before .before .before .before .before .version .ensures) (c .before .before .before .before .before .before .before .before .before .before .before .before .before .before .before .word-size .ensures ∙ ap wordSize (c .before .before .before .before .before .before .before .before .before .before .before .before .before .before .before .before .before .format .ensures)) (c .before .before .before .before .before .before .before .before .before .before .before .before .before .before .before .before .address-size .ensures)) (c .before .before .before .before .before .before .before .before .before .before .before .before .before .add .kept .1 .0) (c .before .before .before .before .before .before .before .before .before .before .before .before .before .add .ensures) (c .before .before .before .before .before .before .list-unit .ensures)))

@@ -1,4 +1,4 @@
-use Rattle.listing.proofs.PartLaws.{entries-length, entries-short, unit-written}
+use Rattle.listing.proofs.PartLaws.{entries-short, unit-written}
 use borrow.Author.Needs.{needs}
 use lib.ListN.{length}
 use native.Mathlib.Omega.{arith}
@@ -14,9 +14,8 @@ list-unit-spec =
     -- list-part-requires
     (λ c κs.
     let a = c .before .before .before .before .before .before .before .before .before .before .before .before .args in
-    let l = entries-length (a .info .now) (a .header) (c .before .before .before .before .before .before .before .before .before .before .before .before .pre .0) (c .before .before .before .before .before .bytes .ensures) (c .before .before .before .entries-buf .ensures) in
     let s = entries-short (a .info .now) (a .header) (c .before .before .before .before .before .before .before .before .before .before .before .before .pre .0) (c .before .before .before .before .before .bytes .ensures) (c .before .before .before .entries-buf .ensures) in
-    (omega (arith, s, c .before .before .before .before .before .before .before .before .before .before .before .before .pre .0 .short), omega (arith, l, c .before .before .before .before .before .before .before .before .before .before .before .before .pre .1)))
+    (omega (arith, s, c .before .before .before .before .before .before .before .before .before .before .before .before .pre .0 .short), c .before .before .before .before .before .before .before .before .before .before .before .before .pre .1))
     (λ c. search needs)
     (λ c. search needs)
     (λ c. search needs)

@@ -1,7 +1,5 @@
-use Rattle.listing.proofs.TextLaws.{line-ends}
-use Rattle.listing.specs.Text.{refusedLine}
+use Rattle.listing.proofs.PieceLaws.{stopped-by}
 use borrow.Author.Needs.{needs}
-use mathlib.Core.Path.{refl}
 use Rattle.listing.proofs.list.stop.Statement.{statement}
 use Rattle.listing.proofs.list.stop.Tie as tie
 
@@ -12,4 +10,4 @@ stop-spec =
     (λ c κs. search needs)
     (λ c. search needs)
     -- returns
-    (λ c. record { put = c .before .before .put-refused .ensures; most = line-ends (refusedLine (c .before .before .before .before .before .args .number)) (c .before .before .before .before .before .fits .number .fits) (c .before .before .put-refused .ensures); is = refl }))
+    (λ c. stopped-by (c .before .before .add .ensures)))
