@@ -1,0 +1,18 @@
+use borrow.Author.Tests.{eq-eqb, ne-eqb}
+use borrow.Author.Needs.{needs}
+use Rattle.capi.proofs.cursor.call.Statement.{statement}
+use Rattle.capi.proofs.cursor.call.Tie as tie
+
+pub call-spec : {M : Type 1} → statement M
+call-spec =
+    tie.close
+    (tie.spec
+    (λ c κs. search needs)
+    -- returns
+    (λ c. rw (eq-eqb _ _ (c .before .if1 .taken)) (c .next-entry .ensures))
+    (λ c κs. search needs)
+    -- returns-2
+    (λ c. rw (ne-eqb _ _ (c .before .before .if1 .left), eq-eqb _ _ (c .before .if2 .taken)) (c .next-dfs .ensures))
+    (λ c κs. search needs)
+    -- returns-3
+    (λ c. rw (ne-eqb _ _ (c .before .before .if1 .left), ne-eqb _ _ (c .before .if2 .left)) (c .next-sibling .ensures)))

@@ -1,0 +1,16 @@
+use Rattle.capi.proofs.OutLaws.{put-then}
+use mathlib.Core.Path.{_∙_}
+use borrow.Author.Needs.{needs}
+use Rattle.capi.proofs.cursor.put_called.Statement.{statement}
+use Rattle.capi.proofs.cursor.put_called.Tie as tie
+
+pub put-called-spec : {M : Type 1} → statement M
+put-called-spec =
+    tie.close
+    (tie.spec
+    (λ c κs. search needs)
+    (λ c κs. search needs)
+    (λ c κs. search needs)
+    (λ c. search needs)
+    -- returns
+    (λ c. put-then (put-then (c .before .before .before .before .before .before .before .before .before .before .put-answer .ensures) (c .before .before .before .before .before .before .before .before .before .before .put-answer .kept .0) (c .before .before .before .before .before .before .put-raw .ensures)) (c .before .before .before .before .before .before .put-raw .kept .0 ∙ c .before .before .before .before .before .before .before .before .before .before .put-answer .kept .0) (c .before .before .put-entry .ensures)))
