@@ -67,11 +67,11 @@ abbrev pub viewAttribute : declared-attribute.Attribute → Attribute
 viewAttribute a = record { name = a .name; form = a .form; value = viewValue (a .value) }
 
 abbrev pub viewRaw : Raw → Answer (Read Numbers)
-viewRaw (raw.Got l h p) = gives (record { low = l; high = h }) p
+viewRaw (raw.Got l p h) = gives (record { low = l; high = h }) p
 viewRaw (raw.Refused e) = refused (numberOf e)
 
 abbrev pub viewFormValue : FormValue → Answer (Read Value)
-viewFormValue (form-value.Got k l h p) = gives (value k l h) p
+viewFormValue (form-value.Got k l p h) = gives (value k l h) p
 viewFormValue (form-value.Refused e) = refused (numberOf e)
 
 abbrev pub viewParsed : Parsed → Answer (Read Attribute)

@@ -63,7 +63,7 @@ fn parse_at(
     ensures { λ r. ⌜ viewParsed r ≡ attributeAt (now (bytes .entry)) start encoding endian (specificationOf spec) at ⌝ }
 {
     match form_at(bytes, start, encoding, endian, spec, at) {
-        FormValue::Got(kind, low, high, next) => {
+        FormValue::Got(kind, low, next, high) => {
             let name = spec.name;
             let value = value_of(encoding, name, kind, low, high);
             let attribute = Attribute {
@@ -134,7 +134,7 @@ fn read_listed(
     while i < count {
         let spec = spec_at(specs, first, count, i);
         match form_at(bytes, start, encoding, endian, spec, next) {
-            FormValue::Got(kind, low, high, after) => {
+            FormValue::Got(kind, low, after, high) => {
                 let name = spec.name;
                 let value = value_of(encoding, name, kind, low, high);
                 attrs[i] = Attribute {

@@ -39,15 +39,16 @@ use reader::words::read_u128;
 
 pub(crate) const INDIRECT: u64 = 0x16;
 
-// Two numbers and the next place.
+// A number, the next place, and a second number. The numbers are not neighbours: loaded as one, they
+// would wait for the stores of both.
 pub enum Raw {
-    Got(u64, u64, usize),
+    Got(u64, usize, u64),
     Refused(Error),
 }
 
-// A form's case, two numbers and the next place.
+// A form's case, a number, the next place, and a second number.
 pub enum FormValue {
-    Got(Kind, u64, u64, usize),
+    Got(Kind, u64, usize, u64),
     Refused(Error),
 }
 
@@ -55,7 +56,7 @@ fn number(read: Word) -> Raw
     ensures { λ r. ⌜ viewRaw r ≡ numbered (viewWord read) ⌝ }
 {
     match read {
-        Word::Got(value, next) => Raw::Got(value, 0, next),
+        Word::Got(value, next) => Raw::Got(value, next, 0),
         Word::Refused(e) => Raw::Refused(e),
     }
 }
@@ -64,7 +65,7 @@ fn wide(bytes: &[u8], at: usize, endian: RunTimeEndian) -> Raw
     ensures { λ r. ⌜ viewRaw r ≡ wideAt (now (bytes .entry)) at endian ⌝ }
 {
     match read_u128(bytes, at, endian) {
-        WideWord::Got(low, high, next) => Raw::Got(low, high, next),
+        WideWord::Got(low, high, next) => Raw::Got(low, next, high),
         WideWord::Refused(e) => Raw::Refused(e),
     }
 }
@@ -73,7 +74,7 @@ fn signed(bytes: &[u8], at: usize) -> Raw
     ensures { λ r. ⌜ viewRaw r ≡ signedAt (now (bytes .entry)) at ⌝ }
 {
     match read_sleb128(bytes, at) {
-        SignedWord::Got(value, next) => Raw::Got(to_word(value), 0, next),
+        SignedWord::Got(value, next) => Raw::Got(to_word(value), next, 0),
         SignedWord::Refused(e) => Raw::Refused(e),
     }
 }
@@ -97,7 +98,7 @@ fn block(bytes: &[u8], start: usize, count: Word) -> Raw
         Word::Got(len, at) => match skip(bytes, at, len) {
             Place::At(next) => {
                 let place = (start + at) as u64;
-                Raw::Got(place, len, next)
+                Raw::Got(place, next, len)
             }
             Place::Refused(e) => Raw::Refused(e),
         },
@@ -112,7 +113,7 @@ fn string(bytes: &[u8], start: usize, at: usize) -> Raw
     match read_null_terminated_slice(bytes, at) {
         Bytes::Got(from, len, next) => {
             let place = (start + from) as u64;
-            Raw::Got(place, len as u64, next)
+            Raw::Got(place, next, len as u64)
         }
         Bytes::Refused(e) => Raw::Refused(e),
     }
@@ -123,7 +124,7 @@ fn constant(spec: AttributeSpecification, at: usize) -> Raw
 {
     let form = spec.form;
     if (form as u64) == IMPLICIT_CONST {
-        return Raw::Got(spec.constant, 0, at);
+        return Raw::Got(spec.constant, at, 0);
     }
     Raw::Refused(Error::InvalidImplicitConst)
 }
@@ -158,7 +159,7 @@ fn raw_at(
         Layout::Block4 => block(bytes, start, read_u32(bytes, at, endian)),
         Layout::Block => block(bytes, start, read_uleb128(bytes, at)),
         Layout::NullTerminated => string(bytes, start, at),
-        Layout::Present => Raw::Got(1, 0, at),
+        Layout::Present => Raw::Got(1, at, 0),
         Layout::ImplicitConst => constant(spec, at),
         Layout::Unknown => Raw::Refused(Error::UnknownForm),
     }
@@ -203,7 +204,7 @@ pub(crate) fn form_at(
             let layout = found.layout;
             let kind = found.kind;
             match raw_at(bytes, start, encoding, endian, spec, layout, next) {
-                Raw::Got(low, high, after) => FormValue::Got(kind, low, high, after),
+                Raw::Got(low, after, high) => FormValue::Got(kind, low, after, high),
                 Raw::Refused(e) => FormValue::Refused(e),
             }
         }

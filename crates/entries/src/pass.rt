@@ -20,13 +20,13 @@ use super::raw::code_direct;
 use super::raw::depth_after;
 use super::raw::depth_below;
 use super::raw::moved;
+use super::raw::read_code;
 use abbrev::lookup::Abbreviation;
 use abbrev::lookup::leading;
 use attribute::pass::pass_attributes;
 use attribute::value::Number;
 use reader::answer::Place;
 use reader::answer::Word;
-use reader::leb128::read_uleb128;
 
 // Where reading goes on, and the offset and depth of the item last held or passed.
 pub struct Passing {
@@ -144,6 +144,17 @@ fn pass_item(raw: EntriesRaw, bytes: &[u8], rows: &[u64], specs: &[u64], n: usiz
     }
 }
 
+// How many codes to look up directly on the way to a depth: none where nothing is passed.
+fn leading_for(from: Passing, rows: &[u64], depth: i64) -> usize
+    ensures { λ r. ⌜ r ≤ leading (now (rows .entry)) ⌝ }
+{
+    let raw = from.raw;
+    if same_depth(raw.depth, depth) {
+        return 0;
+    }
+    leading(rows)
+}
+
 // Passes items until the next one stands at a depth or is refused, or none is left.
 pub(crate) fn pass_to(
     from: Passing,
@@ -155,7 +166,7 @@ pub(crate) fn pass_to(
     requires { ⌜ KeptRaw (length (now bytes)) (from .raw) ⌝ }
     ensures { λ r. ⌜ Arrived (entryLimit .most) (now (bytes .entry)) (now (rows .entry)) (now (specs .entry)) (byJump (length (now (bytes .entry)))) (standsAt depth) from r ⌝ }
 {
-    let n = leading(rows);
+    let n = leading_for(from, rows, depth);
     let mut here = from;
     while here.raw.position < bytes.len() {
         let raw = here.raw;
@@ -186,7 +197,7 @@ pub(crate) fn pass_nulls(from: Passing, bytes: &[u8], rows: &[u64], specs: &[u64
     let mut here = from;
     while here.raw.position < bytes.len() {
         let raw = here.raw;
-        match read_uleb128(bytes, raw.position) {
+        match read_code(bytes, raw.position) {
             Word::Got(code, next) => {
                 if code == 0 {
                     let depth = depth_below(raw.depth);

@@ -9,7 +9,8 @@ ghost use lib.IntN.{pos, _+ℤ_, _-ℤ_, natAbs};
 ghost use lib.ListN.{length};
 ghost use Rattle.reader.specs.Answer.{gives, endOf};
 ghost use Rattle.reader.specs.Errors.{numberOf};
-ghost use Rattle.reader.specs.Views.{viewPlace};
+ghost use Rattle.reader.specs.Leb128.{ulebAt};
+ghost use Rattle.reader.specs.Views.{viewPlace, viewWord};
 ghost use Rattle.abbrev.specs.Table.{entryLimit};
 ghost use Rattle.abbrev.specs.Views.{foundOf, specificationOf};
 ghost use Rattle.attribute.specs.Attributes.{readAttributes};
@@ -140,11 +141,25 @@ pub(crate) fn keeps_depth(depth: i64, position: usize) -> bool
     ((-1 - depth) as usize) < position
 }
 
+// A code; nearly all have one byte.
+pub(crate) fn read_code(bytes: &[u8], at: usize) -> Word
+    ensures { λ r. ⌜ viewWord r ≡ ulebAt (now (bytes .entry)) at 64 ⌝ }
+{
+    if at < bytes.len() {
+        let b = bytes[at];
+        if b < 128 {
+            let next = at + 1;
+            return Word::Got(b as u64, next);
+        }
+    }
+    read_uleb128(bytes, at)
+}
+
 // What stands at a place that has a code. Codes up to `n` are looked up in their own rows.
 pub(crate) fn code_direct(bytes: &[u8], rows: &[u64], specs: &[u64], n: usize, at: usize) -> Code
     ensures { λ r. ⌜ viewCode r ≡ directAt (entryLimit .most) n (now (bytes .entry)) (now (rows .entry)) (now (specs .entry)) at ⌝ }
 {
-    match read_uleb128(bytes, at) {
+    match read_code(bytes, at) {
         Word::Got(code, next) => {
             if code == 0 {
                 return Code::Null(next);

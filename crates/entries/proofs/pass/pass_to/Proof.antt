@@ -35,7 +35,7 @@ pass-to-spec =
     let e : toZ w64 (ofZ w64 (c .before .before .before .before .before .before .loop .here .raw .depth)) ≡ c .before .before .before .before .before .before .loop .here .raw .depth = search needs in
     rw (toZ-ofZ (c .before .before .before .before .before .before .before .before .before .before .before .fits .depth)) at (to-found 64 (a .bytes .now) (a .rows .now) (a .specs .now) (toZ w64 (ofZ w64 (a .depth))) (c .before .before .before .before .before .before .loop .inv) (sym (rw e at (c .before .same-depth .ensures)) ∙ c .if2 .taken)))
     -- pass-item-requires
-    (λ c κs. (c .before .before .before .before .before .before .loop .inv .kept, omega (arith, c .before .before .before .before .before .before .before .leading .ensures)))
+    (λ c κs. (c .before .before .before .before .before .before .loop .inv .kept, omega (arith, c .before .before .before .before .before .before .before .leading-for .ensures)))
     (λ c. search needs)
     -- add-t14
     (λ c. record { fits = omega (arith, c .before .before .before .before .before .before .before .before .before .before .before .loop .inv .kept .short, c .before .before .before .before .before .before .before .before .before .before .before .loop .inv .kept .inside) })
