@@ -66,7 +66,7 @@ fn put_header(out: &mut [u64], at: usize, header: UnitHeader) -> usize
     put_type(out, second, unit_type)
 }
 
-// The header at an offset of .debug_info. Words: see README.
+// The header at an offset of .debug_info. Words: its fields, as `headerWords` lists them.
 #[no_mangle]
 pub extern "C" fn tehkumir_unit_header(
     section: &[u8],
