@@ -98,6 +98,11 @@ uint64_t tehkumir_raw(const uint8_t *bytes, size_t len, size_t start, uint16_t v
                       const uint64_t *rows, size_t rows_len, const uint64_t *specs, size_t specs_len, const uint8_t *calls,
                       size_t calls_len, uint64_t *out, size_t out_len);
 
+/* The same calls on a reader that is lent and moved in place: the same words. */
+uint64_t tehkumir_raw_lent(const uint8_t *bytes, size_t len, size_t start, uint16_t version, bool is_64, uint8_t width, bool is_big,
+                           const uint64_t *rows, size_t rows_len, const uint64_t *specs, size_t specs_len, const uint8_t *calls,
+                           size_t calls_len, uint64_t *out, size_t out_len);
+
 /* A cursor, and calls on it: 0 is next_entry, 1 next_dfs, any other number next_sibling. For each call: status, 1 where
  * something was reached, place and depth of the next item; then the ENTRY held. */
 uint64_t tehkumir_cursor(const uint8_t *bytes, size_t len, size_t start, uint16_t version, bool is_64, uint8_t width,

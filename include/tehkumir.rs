@@ -98,6 +98,23 @@ unsafe extern "C" {
         out: *mut u64,
         len: usize,
     ) -> u64;
+    pub fn tehkumir_raw_lent(
+        b: *const u8,
+        n: usize,
+        start: usize,
+        version: u16,
+        is_64: bool,
+        width: u8,
+        is_big: bool,
+        rows: *const u64,
+        rows_len: usize,
+        specs: *const u64,
+        specs_len: usize,
+        calls: *const u8,
+        calls_len: usize,
+        out: *mut u64,
+        len: usize,
+    ) -> u64;
     pub fn tehkumir_cursor(
         b: *const u8,
         n: usize,

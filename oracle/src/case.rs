@@ -17,9 +17,11 @@ pub const ATTRIBUTE: u8 = 11;
 pub const RAW: u8 = 12;
 pub const CURSOR: u8 = 13;
 pub const TREE: u8 = 14;
-pub const LIST: u8 = 15;
+/// The calls of `RAW` on a lent state.
+pub const RAW_LENT: u8 = 15;
+pub const LIST: u8 = 16;
 
-pub const KINDS: usize = 16;
+pub const KINDS: usize = 17;
 pub const NAMES: [&str; KINDS] = [
     "read_uleb128",
     "read_uleb128_u16",
@@ -36,6 +38,7 @@ pub const NAMES: [&str; KINDS] = [
     "raw",
     "cursor",
     "tree",
+    "raw_lent",
     "list",
 ];
 
@@ -87,18 +90,18 @@ pub struct Table {
 ///   0..3 at | 4 at, width, is_big | 5 at, is_big | 6 offset, is_big | 7 at, is_big
 ///   8 unit, offset, is_big | 9 offset | 10 code
 ///   11 start, at, version, is_64, width, is_big, name, form, constant
-///   12..14 start, version, is_64, width, is_big | 15 first, bytes of text lent
+///   12..15 start, version, is_64, width, is_big | 16 first, bytes of text lent
 #[derive(Clone)]
 pub struct Case {
     pub kind: u8,
     pub n: [u64; 10],
     pub bytes: Arc<Vec<u8>>,
-    /// 15: .debug_abbrev
+    /// 16: .debug_abbrev
     pub second: Arc<Vec<u8>>,
     pub table: Option<Arc<Table>>,
     /// calls or levels
     pub calls: Vec<u64>,
-    /// 9 and 15: words lent for rows and specifications
+    /// 9 and 16: words lent for rows and specifications
     pub lent: (usize, usize),
     /// where too few words may be lent for the answer (see `ask` in compare.rs)
     pub cut: Option<usize>,
@@ -113,6 +116,11 @@ pub struct Enc {
 }
 
 impl Case {
+    /// A raw run on a lent state.
+    pub fn lent(&self) -> Case {
+        Case { kind: RAW_LENT, ..self.clone() }
+    }
+
     pub fn new(kind: u8, bytes: &Arc<Vec<u8>>, n: &[u64]) -> Case {
         let mut all = [0; 10];
         all[..n.len()].copy_from_slice(n);
@@ -138,7 +146,7 @@ impl Case {
             WORD | ENTRY => 2,
             INITIAL | HEADER | NEXT_UNIT => 1,
             ATTRIBUTE => 5,
-            RAW | CURSOR | TREE => 4,
+            RAW | CURSOR | TREE | RAW_LENT => 4,
             _ => return false,
         };
         self.n[i] != 0

@@ -305,13 +305,20 @@ impl Comparer {
         }
     }
 
-    /// Puts a case to both sides. The answer is given where gimli was asked already.
+    /// Puts a case to both sides, a raw run also on a lent state. The answer is given where gimli was asked already.
     pub fn put(&mut self, case: &Case, answer: Option<Answer>) {
         if !gimli_side::can_open(case) {
             self.stats.unasked += 1;
             return;
         }
         let x = answer.unwrap_or_else(|| expected(case));
+        self.put_one(case, &x);
+        if case.kind == RAW {
+            self.put_one(&case.lent(), &x);
+        }
+    }
+
+    fn put_one(&mut self, case: &Case, x: &Answer) {
         let k = case.kind as usize;
         self.stats.cases[k] += 1;
         self.stats.calls[k] += x.said.len().max(1) as u64;
@@ -334,19 +341,19 @@ impl Comparer {
             return;
         }
         let slack = self.rng.below(9);
-        let mut status = ask(case, &x, slack, &mut self.lent);
+        let mut status = ask(case, x, slack, &mut self.lent);
         if self.planting && self.rng.below(16) == 0 {
             // only an answer that is right before counts
-            if differs(case, &x, status, &self.lent).is_none() {
+            if differs(case, x, status, &self.lent).is_none() {
                 plant(&mut self.rng, case, &mut status, &mut self.lent);
                 self.stats.planted[k].0 += 1;
-                self.stats.planted[k].1 += differs(case, &x, status, &self.lent).is_some() as u64;
+                self.stats.planted[k].1 += differs(case, x, status, &self.lent).is_some() as u64;
                 return;
             }
         }
-        let Some(said) = differs(case, &x, status, &self.lent) else { return };
+        let Some(said) = differs(case, x, status, &self.lent) else { return };
         let key = key(case, &said);
-        let text = describe(case, &x, &said, status, &self.lent);
+        let text = describe(case, x, &said, status, &self.lent);
         if self.quick {
             println!("{key}\n{text}");
             std::process::exit(1);

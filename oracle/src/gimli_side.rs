@@ -62,7 +62,7 @@ pub fn answer(case: &Case) -> Answer {
         TABLE => table(case),
         GET => get(case),
         ATTRIBUTE => attribute(case),
-        RAW => raw(case),
+        RAW | RAW_LENT => raw(case),
         CURSOR => cursor(case),
         TREE => tree(case, &mut Fixed(&case.calls)).0,
         _ => listing(case),

@@ -87,6 +87,23 @@ impl Dies {
 const V4: Head =
     Head { version: 4, is_64: false, width: 4, is_big: false, unit_type: 1, table: 0, signature: 0, type_offset: 0 };
 
+/// An entry with one value of a form and one of form 0x0b, skipped and read.
+fn passed_and_read(all: &mut Vec<Case>, form: u16, width: u8, is_64: bool, version: u16, value: &[u8]) {
+    let mut table = Abbrevs::new().abbrev(1, 0x34, false).attr(3, form as u64);
+    if form == 0x21 {
+        put_sleb(&mut table.0, -5);
+    }
+    let t = table_of(&table.attr(0x0b, 0x0b).attr_null().null()).unwrap();
+    let mut bytes = vec![1];
+    bytes.extend(value);
+    bytes.extend([1, 0]);
+    for calls in [[1], [0]] {
+        let mut c = case(RAW, &bytes, &[11, version as u64, is_64 as u64, width as u64, 0]).with(&t);
+        c.calls = calls.to_vec();
+        all.push(c);
+    }
+}
+
 fn values(all: &mut Vec<Case>) {
     let eight = [1, 2, 3, 4, 5, 6, 7, 8];
     let ten = [1, 2, 3, 4, 5, 6, 7, 8, 0x99, 0x99];
@@ -171,6 +188,9 @@ fn values(all: &mut Vec<Case>) {
         (0x01, 3, false, 4, vec![1, 2, 3]),
         (0x10, 3, false, 2, vec![1, 2, 3]),
     ];
+    for (form, width, is_64, version, bytes) in &tests {
+        passed_and_read(all, *form, *width, *is_64, *version, bytes);
+    }
     for (form, width, is_64, version, bytes) in tests {
         for is_big in [0, 1] {
             // DW_AT_low_pc, and names by which 06 and 07 are a SecOffset

@@ -117,11 +117,15 @@ pub fn call(case: &Case, lent: &mut Lent) -> u64 {
                 out,
                 len,
             ),
-            RAW | CURSOR => {
+            RAW | RAW_LENT | CURSOR => {
                 let calls: Vec<u8> = case.calls.iter().map(|x| *x as u8).collect();
                 let (start, version, width) = (p[0] as usize, p[1] as u16, p[3] as u8);
                 let (c, cn) = (calls.as_ptr(), calls.len());
-                let f = if case.kind == RAW { tehkumir_raw } else { tehkumir_cursor };
+                let f = match case.kind {
+                    RAW => tehkumir_raw,
+                    RAW_LENT => tehkumir_raw_lent,
+                    _ => tehkumir_cursor,
+                };
                 f(b, n, start, version, p[2] != 0, width, p[4] != 0, r, rn, s, sn, c, cn, out, len)
             }
             TREE => tehkumir_tree(

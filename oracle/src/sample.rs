@@ -66,7 +66,7 @@ fn settle(case: &Case, x: Answer) -> Option<(Case, Answer)> {
     }
     // calls up to the first refusal of a raw reader, and as many as there is room for
     let mut keep = x.said.len();
-    if case.kind == RAW {
+    if matches!(case.kind, RAW | RAW_LENT) {
         keep = x.said.iter().position(|s| *s != 0).map_or(keep, |i| i + 1);
     }
     while keep > 0 && x.ends[keep - 1] >= MOST_WORDS {
@@ -110,6 +110,17 @@ fn marks(case: &Case, x: &Answer) -> Vec<(u8, u64, u64)> {
     m
 }
 
+/// The forms of the values that a raw reader's first call skips.
+fn skipped(case: &Case, x: &Answer) -> Vec<u64> {
+    let Some(t) = &case.table else { return Vec::new() };
+    if case.kind != RAW || case.calls.first() != Some(&1) || x.said.first() != Some(&0) {
+        return Vec::new();
+    }
+    let code = case.bytes[0] as u64;
+    let Some(row) = t.rows.chunks(5).find(|row| row[0] == code) else { return Vec::new() };
+    t.specs.chunks(3).skip(row[3] as usize).take(row[4] as usize).map(|spec| spec[1]).collect()
+}
+
 #[derive(Default)]
 struct Taken {
     out: Vec<Vec<u8>>,
@@ -117,6 +128,7 @@ struct Taken {
     kinds: [usize; KINDS],
     statuses: BTreeSet<u64>,
     forms: BTreeSet<u64>,
+    skipped: BTreeSet<u64>,
     orders: BTreeSet<(u8, bool)>,
     seen: std::collections::HashSet<Vec<u8>>,
 }
@@ -147,6 +159,7 @@ impl Taken {
         if case.kind == ATTRIBUTE && x.status == 0 {
             self.forms.insert(case.n[7]);
         }
+        self.skipped.extend(skipped(&case, &x));
         self.out.push(b);
         true
     }
@@ -158,8 +171,10 @@ pub fn write(path: &str, count: usize, seed: u64) -> std::io::Result<bool> {
     // gimli's tests and document 01's readings
     for case in known::cases() {
         let x = expected(&case);
-        if !take.put(&case, x, true) {
+        if !take.put(&case, x.clone(), true) {
             left_out += 1;
+        } else if case.kind == RAW {
+            take.put(&case.lent(), x, true);
         }
     }
     // then what shows something new, three times each, then as many of each kind
@@ -181,9 +196,12 @@ pub fn write(path: &str, count: usize, seed: u64) -> std::io::Result<bool> {
                 return have < count;
             }
             let x = x.unwrap_or_else(|| expected(&case));
-            if take.put(&case, x, !full && tries > 20_000) {
+            if take.put(&case, x.clone(), !full && tries > 20_000) {
                 taken[case.kind as usize] += 1;
                 have += 1;
+                if case.kind == RAW && take.put(&case.lent(), x, true) {
+                    have += 1;
+                }
             }
             have < count
         };
@@ -193,7 +211,7 @@ pub fn write(path: &str, count: usize, seed: u64) -> std::io::Result<bool> {
             generate::scene(&mut rng, &mut sink);
         }
     }
-    let Taken { out, kinds, statuses, forms, orders, .. } = take;
+    let Taken { out, kinds, statuses, forms, skipped, orders, .. } = take;
     let mut f = std::io::BufWriter::new(std::fs::File::create(path)?);
     for b in &out {
         f.write_all(b)?;
@@ -204,7 +222,7 @@ pub fn write(path: &str, count: usize, seed: u64) -> std::io::Result<bool> {
     println!("the longest: {} bytes", out.iter().map(|b| b.len()).max().unwrap_or(0));
     println!("{left_out} of the known cases left out (repeated, too long, or not gimli's own answer)");
     let mut good = true;
-    for k in 0..15 {
+    for k in 0..16 {
         println!("  {:20} {}", NAMES[k], kinds[k]);
         good &= kinds[k] != 0;
     }
@@ -220,8 +238,12 @@ pub fn write(path: &str, count: usize, seed: u64) -> std::io::Result<bool> {
             println!("  no value of form {f:#x}");
             good = false;
         }
+        if !skipped.contains(&(f as u64)) {
+            println!("  no skipped value of form {f:#x}");
+            good = false;
+        }
     }
-    for k in [WORD, INITIAL, HEADER, NEXT_UNIT, ENTRY, ATTRIBUTE, RAW, CURSOR, TREE] {
+    for k in [WORD, INITIAL, HEADER, NEXT_UNIT, ENTRY, ATTRIBUTE, RAW, CURSOR, TREE, RAW_LENT] {
         for big in [false, true] {
             if !orders.contains(&(k, big)) {
                 println!("  {}: not in both orders", NAMES[k as usize]);
@@ -272,7 +294,7 @@ fn replay_one(b: &[u8]) -> Option<bool> {
     let mut lent = Lent::default();
     lent.rows.renew(5 * MOST_ROWS);
     lent.specs.renew(3 * MOST_SPECS);
-    if matches!(kind, ENTRY | GET | RAW | CURSOR | TREE) {
+    if matches!(kind, ENTRY | GET | RAW | CURSOR | TREE | RAW_LENT) {
         lent.out.renew(1);
         let table = Case::new(TABLE, &Arc::new(section.clone()), &[0]);
         if port::call(&table, &mut lent) != 0 {

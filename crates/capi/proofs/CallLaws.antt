@@ -1,13 +1,16 @@
 -- Laws of calls one after another: the next one, and none.
-use mathlib.Core.Path.{_≡_, sym, ap, _∙_}
+use mathlib.Core.Bool.{Bool, true, false, cond}
+use mathlib.Core.Path.{_≡_, refl, sym, ap, _∙_}
 use mathlib.Core.List.{List, [], _∷_, _++_}
 use Prim.Native.Nat.{ℕ, _+_, _≤_, _<_}
 use native.Mathlib.Numerals.{add-one}
+use lib.Dec.{eqb}
 use lib.ListN.{length, drop, getD, drop-of-length-le}
 use lib.Seq.{drop-cons}
 use Rattle.entries.specs.Cursor.{Cursor, Called}
 use Rattle.entries.specs.declared.raw.EntriesRaw.{EntriesRaw}
 use Rattle.tree.specs.Tree.{Tree, Answered}
+use Rattle.capi.specs.Words.{bit}
 use Rattle.capi.specs.Calls.{calledWords, cursorCall, cursorCalls, answeredWords, treeCall, treeCalls, steppedWords, rawCall, rawCalls}
 
 -- the numbers from the i-th on
@@ -49,3 +52,8 @@ module _ (most : ℕ) (s rows specs ops : List ℕ) (i : ℕ) where
     pub raw-none : (w : EntriesRaw) → rawCalls most s rows specs (drop i ops) w ≡ []
     unfolding rawCalls
     raw-none w = ap (λ (l : List ℕ). rawCalls most s rows specs l w) (drop-of-length-le ops h)
+
+-- the word of a found row's children
+pub child-bit : (b : Bool) → bit (eqb (cond b 1 0) 1) ≡ bit b
+child-bit true = refl
+child-bit false = refl

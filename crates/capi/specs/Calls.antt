@@ -1,17 +1,16 @@
 -- Calls one after another, each on the state that the last one handed back, as words.
 use mathlib.Core.Bool.{Bool, true, false, cond}
 use mathlib.Core.List.{List, [], _∷_, _++_}
-use mathlib.Core.Option.{Option, none, some}
 use Prim.Native.Nat.{ℕ}
 use lib.Dec.{eqb}
 use Rattle.reader.specs.Answer.{Answer, got, refused, andThen}
 use Rattle.reader.specs.Twos.{twos, word}
 use Rattle.reader.specs.declared.common.Encoding.{Encoding}
 use Rattle.reader.specs.declared.endianity.RunTimeEndian.{RunTimeEndian}
-use Rattle.abbrev.specs.Lookup.{Found}
 use Rattle.entries.specs.Cursor.{Cursor, Called, openedCursor, nextEntry, nextDfs, nextSibling}
-use Rattle.entries.specs.Raw.{Taken, rawEntry, rawAbbreviation, rawSkip}
+use Rattle.entries.specs.Raw.{Taken, rawEntry}
 use Rattle.entries.specs.declared.raw.EntriesRaw.{EntriesRaw}
+use Rattle.lent.specs.Calls.{skippedCall}
 use Rattle.tree.specs.Tree.{Tree, Answered, unrooted, rootOf, nextOf}
 use Rattle.capi.specs.Words.{bit, entryWords}
 
@@ -81,21 +80,15 @@ passedWords tag children count = tag ∷ children ∷ count ∷ []
 abbrev pub noEntry : Answer Bool → EntriesRaw → Stepped
 noEntry x w = record { answer = x; raw = w; words = passedWords 0 0 0 }
 
--- after skip_attributes
-abbrev pub skipEnd : Found → Answer (Unit {0}) → EntriesRaw → Stepped
-skipEnd f (got u) w = record { answer = got true; raw = w; words = passedWords (f .tag) (f .children) (f .count) }
-skipEnd f (refused n) w = noEntry (refused n) w
+-- of an entry, or of the null that stands for none
+abbrev pub passedStep : Taken → Stepped
+passedStep x =
+    record { answer = x .answer; raw = x .raw; words = passedWords (x .entry .tag) (bit (x .entry .children)) (x .entry .count) }
 
 module _ (most : ℕ) (s rows specs : List ℕ) where
-  -- after read_abbreviation: a null has no values
-  abbrev pub skipFound : Answer (Option Found) → EntriesRaw → Stepped
-  skipFound (got none) w = noEntry (got false) w
-  skipFound (got (some f)) w = skipEnd f (rawSkip most w s specs f .answer) (rawSkip most w s specs f .raw)
-  skipFound (refused n) w = noEntry (refused n) w
-
   -- read_abbreviation and skip_attributes
-  unfoldable pub skipStep : EntriesRaw → Stepped
-  skipStep w = skipFound (rawAbbreviation most w s rows specs .answer) (rawAbbreviation most w s rows specs .raw)
+  abbrev pub skipStep : EntriesRaw → Stepped
+  skipStep w = passedStep (skippedCall most s rows specs w)
 
   -- 0: read_entry; any other number: read_abbreviation and skip_attributes
   abbrev pub rawCall : ℕ → EntriesRaw → Stepped

@@ -60,9 +60,12 @@ fn put_called(out: &mut [u64], at: usize, called: CursorNext) -> usize
     let answer = called.answer;
     let cursor = called.cursor;
     let input = cursor.input;
-    let entry = cursor.entry;
     let first = put_answer(out, at, answer);
     let second = put_raw(out, first, input);
+    if out.len() <= second {
+        return second;
+    }
+    let entry = cursor.entry;
     put_entry(out, second, entry)
 }
 

@@ -41,11 +41,14 @@ fn put_answered(out: &mut [u64], at: usize, answered: TreeNext) -> usize
     let tree = answered.tree;
     let cursor = tree.cursor;
     let input = cursor.input;
-    let entry = cursor.entry;
     let rooted = bit_of(tree.rooted);
     let first = put_answer(out, at, answer);
     let second = put(out, first, rooted);
     let third = put_raw(out, second, input);
+    if out.len() <= third {
+        return third;
+    }
+    let entry = cursor.entry;
     put_entry(out, third, entry)
 }
 

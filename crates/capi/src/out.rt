@@ -167,7 +167,8 @@ fn put_attributes(out: &mut [u64], at: usize, entry: Entry) -> usize
     end
 }
 
-// An entry's words; none are stored where there is no room for the first.
+// An entry's words; none are stored where there is no room for the first. Callers ask for that room
+// themselves before they hand the entry over, which copies it.
 pub(crate) fn put_entry(out: &mut [u64], at: usize, entry: Entry) -> usize
     requires { ⌜ at ≤ length (now out) ⌝ }
     ensures { λ r. ⌜ Put (now (out .entry)) (now (out .exit)) at r (entryWords (viewEntry entry)) ⌝ }

@@ -5,9 +5,10 @@ ghost use Prim.Native.Nat.{_≤_};
 ghost use lib.ListN.{length};
 ghost use Rattle.abbrev.specs.Table.{entryLimit};
 ghost use Rattle.abbrev.specs.Views.{foundOf};
-ghost use Rattle.entries.specs.Raw.{opened, rawSkip};
+ghost use Rattle.entries.specs.Raw.{opened};
 ghost use Rattle.entries.specs.Views.{viewRawEntry, viewSaid, viewNext};
-ghost use Rattle.capi.specs.Calls.{answerWords, readStep, steppedWords, skipStep, skipEnd, noEntry, rawCall, rawCalls};
+ghost use Rattle.lent.specs.Calls.{skipValues};
+ghost use Rattle.capi.specs.Calls.{answerWords, readStep, steppedWords, skipStep, passedStep, noEntry, rawCall, rawCalls};
 ghost use Rattle.capi.specs.Views.{viewPassed, StepAs};
 ghost use Rattle.capi.specs.Words.{Gives, encodingOf, endianOf, Put};
 use super::cursor::put_answer;
@@ -28,6 +29,11 @@ use entries::raw::Opened;
 use entries::raw::Outcome;
 use entries::raw::RawEntry;
 use entries::raw::Said;
+use lent::held::read_abbreviation;
+use lent::held::read_entry;
+use lent::held::skip_attributes;
+use reader::common::Encoding;
+use reader::endianity::RunTimeEndian;
 
 // What was passed by read_abbreviation and skip_attributes, and the state.
 pub struct Passed {
@@ -53,9 +59,9 @@ fn none(answer: Next, raw: EntriesRaw) -> Passed
 
 // The values of a found row.
 fn skip_values(raw: EntriesRaw, bytes: &[u8], specs: &[u64], found: Abbreviation) -> Passed
-    ensures { λ r. ⌜ viewPassed r ≡ skipEnd (foundOf found) (rawSkip (entryLimit .most) raw (now (bytes .entry)) (now (specs .entry)) (foundOf found) .answer) (rawSkip (entryLimit .most) raw (now (bytes .entry)) (now (specs .entry)) (foundOf found) .raw) ⌝ }
+    ensures { λ r. ⌜ viewPassed r ≡ passedStep (skipValues (entryLimit .most) (now (bytes .entry)) (now (specs .entry)) raw (foundOf found)) ⌝ }
 {
-    let skipped = raw.skip_attributes(bytes, found, specs);
+    let skipped = skip_attributes(raw, bytes, found, specs);
     let answer = skipped.answer;
     let after = skipped.raw;
     match answer {
@@ -70,11 +76,12 @@ fn skip_values(raw: EntriesRaw, bytes: &[u8], specs: &[u64], found: Abbreviation
     }
 }
 
-// read_abbreviation and skip_attributes.
+// read_abbreviation and skip_attributes, on a lent state. There is no second way that makes them by value: a
+// function that is called in one place only is inlined.
 fn skip(raw: EntriesRaw, bytes: &[u8], rows: &[u64], specs: &[u64]) -> Passed
     ensures { λ r. ⌜ viewPassed r ≡ skipStep (entryLimit .most) (now (bytes .entry)) (now (rows .entry)) (now (specs .entry)) raw ⌝ }
 {
-    let read = raw.read_abbreviation(bytes, rows, specs);
+    let read = read_abbreviation(raw, bytes, rows, specs);
     let answer = read.answer;
     let after = read.raw;
     match answer {
@@ -119,9 +126,12 @@ fn put_read(out: &mut [u64], at: usize, read: RawEntry) -> usize
 {
     let said = read.answer;
     let raw = read.raw;
-    let entry = read.entry;
     let first = put_said(out, at, said);
     let second = put_raw(out, first, raw);
+    if out.len() <= second {
+        return second;
+    }
+    let entry = read.entry;
     put_entry(out, second, entry)
 }
 
@@ -140,12 +150,17 @@ fn call(
     specs: &[u64],
     out: &mut [u64],
     at: usize,
+    is_lent: bool,
 ) -> Step
     requires { ⌜ at ≤ length (now out) ⌝ }
     ensures { λ r. ⌜ StepAs (rawCall (entryLimit .most) (now (bytes .entry)) (now (rows .entry)) (now (specs .entry)) op raw) (now (out .entry)) (now (out .exit)) at r ⌝ }
 {
     if op == 0 {
-        let read = raw.read_entry(bytes, rows, specs);
+        let read = if is_lent {
+            read_entry(raw, bytes, rows, specs)
+        } else {
+            raw.read_entry(bytes, rows, specs)
+        };
         let end = put_read(out, at, read);
         let after = read.raw;
         return Step { raw: after, end };
@@ -163,6 +178,7 @@ fn run(
     specs: &[u64],
     calls: &[u8],
     out: &mut [u64],
+    is_lent: bool,
 ) -> usize
     ensures { λ r. ⌜ Put (now (out .entry)) (now (out .exit)) 0 r (rawCalls (entryLimit .most) (now (bytes .entry)) (now (rows .entry)) (now (specs .entry)) (now (calls .entry)) raw) ⌝ }
 {
@@ -171,12 +187,36 @@ fn run(
     let mut i: usize = 0;
     while i < calls.len() {
         let op = calls[i];
-        let next = call(held, op, bytes, rows, specs, out, end);
+        let next = call(held, op, bytes, rows, specs, out, end, is_lent);
         end = next.end;
         held = next.raw;
         i += 1;
     }
     end
+}
+
+// Opens a reader and makes the calls.
+fn open_and_run(
+    bytes: &[u8],
+    start: usize,
+    encoding: Encoding,
+    endian: RunTimeEndian,
+    rows: &[u64],
+    specs: &[u64],
+    calls: &[u8],
+    out: &mut [u64],
+    is_lent: bool,
+) -> u64
+    ensures { λ r. ⌜ Gives (rawCalls (entryLimit .most) (now (bytes .entry)) (now (rows .entry)) (now (specs .entry)) (now (calls .entry))) (opened (length (now (bytes .entry))) start encoding endian) (now (out .entry)) (now (out .exit)) r ⌝ }
+{
+    match EntriesRaw::new(bytes, start, encoding, endian) {
+        Opened::Got(raw) => {
+            let end = run(raw, bytes, rows, specs, calls, out, is_lent);
+            clear(out, end);
+            0
+        }
+        Opened::Refused(e) => refuse(out, e),
+    }
 }
 
 // A raw reader over a part of a unit that starts at the offset `start`, and calls on it: 0 is read_entry,
@@ -200,12 +240,46 @@ pub extern "C" fn tehkumir_raw(
 {
     let encoding = encoding_of(version, is_64, width);
     let endian = endian_of(is_big);
-    match EntriesRaw::new(bytes, start, encoding, endian) {
-        Opened::Got(raw) => {
-            let end = run(raw, bytes, rows, specs, calls, out);
-            clear(out, end);
-            0
-        }
-        Opened::Refused(e) => refuse(out, e),
-    }
+    open_and_run(
+        bytes,
+        start,
+        encoding,
+        endian,
+        rows,
+        specs,
+        calls,
+        out,
+        false,
+    )
+}
+
+// The same with every call on a state that is lent and moved in place: the same words.
+#[no_mangle]
+pub extern "C" fn tehkumir_raw_lent(
+    bytes: &[u8],
+    start: usize,
+    version: u16,
+    is_64: bool,
+    width: u8,
+    is_big: bool,
+    rows: &[u64],
+    specs: &[u64],
+    calls: &[u8],
+    out: &mut [u64],
+) -> u64
+    ensures { λ r. ⌜ Gives (rawCalls (entryLimit .most) (now (bytes .entry)) (now (rows .entry)) (now (specs .entry)) (now (calls .entry))) (opened (length (now (bytes .entry))) start (encodingOf version «is_64» width) (endianOf «is_big»)) (now (out .entry)) (now (out .exit)) r ⌝ }
+{
+    let encoding = encoding_of(version, is_64, width);
+    let endian = endian_of(is_big);
+    open_and_run(
+        bytes,
+        start,
+        encoding,
+        endian,
+        rows,
+        specs,
+        calls,
+        out,
+        true,
+    )
 }

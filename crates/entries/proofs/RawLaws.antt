@@ -3,17 +3,14 @@ use mathlib.Core.Bool.{Bool, true, false, cond, _&&_}
 use mathlib.Core.Path.{_≡_, refl, sym, ap, _∙_}
 use mathlib.Core.List.{List}
 use mathlib.Core.Option.{Option, none, some}
-use Prim.Native.Nat.{ℕ, _+_, _-_, _*_, _/_, _%_, _^_, _≤_, _<_}
-use native.Mathlib.Nat.{mod-eq-of-lt}
+use Prim.Native.Nat.{ℕ, _+_, _-_, _/_, _^_, _≤_, _<_}
 use native.Mathlib.Omega.{arith}
 use borrow.Author.Tests.{leb-true, ltb-true, le-leb, lt-ltb, ne-eqb}
 use lib.Dec.{eqb, leb, ltb}
 use lib.IntN.{ℤ, pos, natAbs, _+ℤ_}
-use lib.ListN.{length, getD}
-use lib.Seq.{drop-cons}
+use lib.ListN.{length}
 use Rattle.reader.specs.Answer.{Answer, got, refused, andThen, Read, gives, Holds}
-use Rattle.reader.specs.Leb128.{through, extent, leb128, ulebAt}
-use Rattle.reader.specs.Words.{number}
+use Rattle.reader.specs.Leb128.{ulebAt}
 use Rattle.reader.proofs.Accepted.{Ends, uleb-ends}
 use Rattle.reader.proofs.Answers.{holds-then, holds-map, cond-by}
 use Rattle.abbrev.specs.Lookup.{Found, leading, rowAt, specsKept, keepsSizes, judgedRow, rowFound, lookup, directLookup, declarationOf}
@@ -229,11 +226,3 @@ module _ (most : ℕ) (w : EntriesRaw) (s rows specs : List ℕ) (h : keepsRaw (
     pub entry-refused : {n : ℕ} → x .end ≡ refused n → refusedEntry most w n ≡ rawEntry most w s rows specs
     unfolding rawEntry entryAt entryAfter values
     entry-refused r = rw (h, a) (stored-refused most w f values _ (ended r))
-
--- a code of one byte
-pub uleb-short : (s : List ℕ) (at : ℕ) → at < length s → getD s at 0 < 128 → ulebAt s at 64 ≡ gives (getD s at 0) (at + 1)
-unfolding ulebAt leb128 extent through number
-uleb-short s at h l =
-    let b = getD s at 0 in
-    let v : b % 2 ^ 7 + 2 ^ 7 * 0 ≡ b = omega (arith, mod-eq-of-lt l) in
-    rw (drop-cons s at 0 h, lt-ltb b 128 l, v, lt-ltb b (2 ^ 64) (omega arith))

@@ -18,11 +18,14 @@ use Rattle.entries.specs.Entry.{Entry, nullEntry, entryOf, isNull}
 abbrev pub known : Answer (Option Found) → ℕ → Answer (Read (Option Found))
 known r p = andThen r (λ f. ifSome f (refused 16) (λ x. gives (some x) p))
 
--- what stands at a code, none for a null, by what looks the other codes up
+-- what a code that was read stands for, none for a null, by what looks the other codes up
+abbrev pub codeFor : (ℕ → Answer (Option Found)) → Answer (Read ℕ) → Answer (Read (Option Found))
+codeFor find code =
+    andThen code (λ r. cond (eqb (r .value) 0) (gives none (r .next)) (known (find (r .value)) (r .next)))
+
+-- what stands at a code
 abbrev pub codeBy : (ℕ → Answer (Option Found)) → List ℕ → ℕ → Answer (Read (Option Found))
-codeBy find s at =
-    andThen (ulebAt s at 64)
-    (λ r. cond (eqb (r .value) 0) (gives none (r .next)) (known (find (r .value)) (r .next)))
+codeBy find s at = codeFor find (ulebAt s at 64)
 
 -- the abbreviation of an entry by its code, none for a null
 unfoldable pub abbreviationAt : ℕ → List ℕ → List ℕ → List ℕ → ℕ → Answer (Read (Option Found))

@@ -1,6 +1,6 @@
 -- What the private functions ask for and promise.
 use mathlib.Core.Path.{_≡_}
-use mathlib.Core.Bool.{Bool, true, false, _||_}
+use mathlib.Core.Bool.{Bool, true, false, cond, _||_}
 use mathlib.Core.List.{List, [], _∷_}
 use mathlib.Core.Option.{Option, none, some}
 use Prim.Native.Nat.{ℕ, _+_, _^_, _≤_, _<_}
@@ -12,7 +12,7 @@ use Rattle.abbrev.specs.Lookup.{Found}
 use Rattle.abbrev.specs.Table.{Specification}
 use Rattle.attribute.specs.Attributes.{readAttributes}
 use Rattle.attribute.specs.Value.{Attribute}
-use Rattle.entries.specs.Cursor.{Cursor, goOn, settled, jumped, depthPast, itemNext, advanced, seek}
+use Rattle.entries.specs.Cursor.{Cursor, Called, goOn, settled, jumped, depthPast, itemNext, advanced, seek}
 use Rattle.entries.specs.Entry.{Entry}
 use Rattle.entries.specs.Raw.{movedTo, Taken}
 use Rattle.entries.specs.Read.{raised}
@@ -64,6 +64,10 @@ pastPlain most s specs w f next =
 abbrev pub pastItem : ℕ → EntriesRaw → ℤ → Answer (Read Entry) → Option EntriesRaw
 pastItem count w d (got r) = some (jumped count (movedTo w (r .next) d) (r .value))
 pastItem count w d (refused n) = none
+
+-- a null that is reached is held, or is "no more"
+abbrev pub askedAs : Bool → Called → Called
+askedAs nulls r = cond nulls r (settled r)
 
 module _ (most : ℕ) (s rows specs : List ℕ) where
   unfoldable pub passedItem : EntriesRaw → Option EntriesRaw

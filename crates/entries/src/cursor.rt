@@ -1,7 +1,7 @@
 // The cursor: a raw reader and the entry or null that it holds. The state goes in by value and comes
 // back beside the answer.
 
-ghost use mathlib.Core.Bool.{true};
+ghost use mathlib.Core.Bool.{true, false};
 ghost use mathlib.Core.Path.{_≡_};
 ghost use lib.ListN.{length};
 ghost use Rattle.reader.specs.Answer.{got, refused};
@@ -9,9 +9,10 @@ ghost use Rattle.reader.specs.Errors.{numberOf};
 ghost use Rattle.reader.specs.Views.{viewPlace};
 ghost use Rattle.abbrev.specs.Table.{entryLimit};
 ghost use Rattle.entries.specs.Cursor.{openedCursor, noCursor, orNoCursor, keepsCursor, currentOf, settled, held, advanced, nextEntry, nextChild, nextDfs, toDepth, nextAtDepth, nextSibling};
+ghost use Rattle.entries.specs.Entry.{nullEntry};
 ghost use Rattle.entries.specs.Raw.{offsetOf};
-ghost use Rattle.entries.specs.Steps.{KeptRaw};
-ghost use Rattle.entries.specs.Views.{viewEntry, viewCursor, viewOpenedCursor, viewCurrent, viewCursorNext};
+ghost use Rattle.entries.specs.Steps.{KeptRaw, askedAs};
+ghost use Rattle.entries.specs.Views.{viewCursor, viewOpenedCursor, viewCurrent, viewNext, viewCursorNext};
 use super::entry::Entry;
 use super::entry::null_at;
 use super::pass::Passing;
@@ -89,76 +90,66 @@ fn halt(raw: EntriesRaw, bytes: &[u8], rows: &[u64], specs: &[u64], error: Error
     }
 }
 
-// What was read is held.
-fn hold(input: EntriesRaw, entry: Entry) -> CursorNext
-    ensures { λ r. ⌜ viewCursorNext r ≡ record { answer = got true; cursor = record { input = input; entry = viewEntry entry } } ⌝ }
+// No item is left: a null of the offset and depth last read is held.
+fn at_end(raw: EntriesRaw, offset: usize, depth: i64) -> CursorNext
+    ensures { λ r. ⌜ viewCursorNext r ≡ record { answer = got false; cursor = record { input = raw; entry = nullEntry (entryLimit .most) offset depth } } ⌝ }
 {
-    let cursor = EntriesCursor { input, entry };
+    let entry = null_at(offset, depth);
+    let cursor = EntriesCursor { input: raw, entry };
     CursorNext {
-        answer: Next::Held,
+        answer: Next::NoMore,
         cursor,
     }
 }
 
-// The next item is held. At the end a null is, of the offset and depth last read.
+// What is said of a null.
+fn say_null(nulls: bool) -> Next
+    ensures { λ r. ⌜ viewNext r ≡ got «nulls» ⌝ }
+{
+    if nulls { Next::Held } else { Next::NoMore }
+}
+
+// The next item is held. A null that is read is the answer, or "no more".
 fn advance(
     raw: EntriesRaw,
     offset: usize,
     depth: i64,
+    nulls: bool,
     bytes: &[u8],
     rows: &[u64],
     specs: &[u64],
 ) -> CursorNext
     requires { ⌜ KeptRaw (length (now bytes)) raw ⌝ }
-    ensures { λ r. ⌜ viewCursorNext r ≡ advanced (entryLimit .most) (now (bytes .entry)) (now (rows .entry)) (now (specs .entry)) raw offset depth ⌝ }
+    ensures { λ r. ⌜ viewCursorNext r ≡ askedAs «nulls» (advanced (entryLimit .most) (now (bytes .entry)) (now (rows .entry)) (now (specs .entry)) raw offset depth) ⌝ }
 {
     if raw.is_empty(bytes) {
-        let entry = null_at(offset, depth);
-        let cursor = EntriesCursor { input: raw, entry };
-        return CursorNext {
-            answer: Next::NoMore,
-            cursor,
-        };
+        return at_end(raw, offset, depth);
     }
     let read = raw.read_entry(bytes, rows, specs);
-    let answer = read.answer;
-    let entry = read.entry;
-    let input = read.raw;
-    match answer {
-        Said::Entry => hold(input, entry),
-        Said::Null => hold(input, entry),
-        Said::Refused(e) => halt(raw, bytes, rows, specs, e),
-    }
-}
-
-// An entry reached is the answer; a null is "no more".
-fn settle(next: CursorNext) -> CursorNext
-    ensures { λ r. ⌜ viewCursorNext r ≡ settled (viewCursorNext next) ⌝ }
-{
-    let answer = next.answer;
-    let cursor = next.cursor;
-    let entry = cursor.entry;
-    match answer {
-        Next::Held => {
-            if entry.is_null() {
-                return CursorNext {
-                    answer: Next::NoMore,
-                    cursor,
-                };
-            }
-            CursorNext {
+    let said = read.answer;
+    match said {
+        Said::Entry => {
+            let input = read.raw;
+            let entry = read.entry;
+            let cursor = EntriesCursor { input, entry };
+            return CursorNext {
                 answer: Next::Held,
                 cursor,
-            }
+            };
         }
-        Next::NoMore => CursorNext {
-            answer: Next::NoMore,
-            cursor,
-        },
-        Next::Refused(e) => CursorNext {
-            answer: Next::Refused(e),
-            cursor,
-        },
+        Said::Null => {
+            let after = read.raw;
+            let entry = read.entry;
+            let cursor = EntriesCursor {
+                input: after,
+                entry,
+            };
+            let answer = say_null(nulls);
+            return CursorNext { answer, cursor };
+        }
+        Said::Refused(e) => {
+            return halt(raw, bytes, rows, specs, e);
+        }
     }
 }
 
@@ -168,8 +159,7 @@ fn arrive(here: Passing, bytes: &[u8], rows: &[u64], specs: &[u64]) -> CursorNex
     ensures { λ r. ⌜ viewCursorNext r ≡ settled (advanced (entryLimit .most) (now (bytes .entry)) (now (rows .entry)) (now (specs .entry)) (here .raw) (here .offset) (here .depth)) ⌝ }
 {
     let raw = here.raw;
-    let next = advance(raw, here.offset, here.depth, bytes, rows, specs);
-    settle(next)
+    advance(raw, here.offset, here.depth, false, bytes, rows, specs)
 }
 
 // On to the next item at a depth.
@@ -311,7 +301,7 @@ impl EntriesCursor {
         if self.keeps_sizes(bytes.len()) {
             let input = self.input;
             let entry = self.entry;
-            return advance(input, entry.offset, entry.depth, bytes, rows, specs);
+            return advance(input, entry.offset, entry.depth, true, bytes, rows, specs);
         }
         refuse(self)
     }

@@ -9,8 +9,8 @@ ghost use lib.IntN.{pos, _+ℤ_, _-ℤ_, natAbs};
 ghost use lib.ListN.{length};
 ghost use Rattle.reader.specs.Answer.{gives, endOf};
 ghost use Rattle.reader.specs.Errors.{numberOf};
-ghost use Rattle.reader.specs.Leb128.{ulebAt};
 ghost use Rattle.reader.specs.Views.{viewPlace, viewWord};
+ghost use Rattle.abbrev.specs.Lookup.{directLookup};
 ghost use Rattle.abbrev.specs.Table.{entryLimit};
 ghost use Rattle.abbrev.specs.Views.{foundOf, specificationOf};
 ghost use Rattle.attribute.specs.Attributes.{readAttributes};
@@ -19,7 +19,7 @@ ghost use Rattle.entries.specs.Cursor.{depthPast};
 ghost use Rattle.entries.specs.Entry.{nullEntry};
 ghost use Rattle.entries.specs.Pass.{directAt, passedTo, rawPassed};
 ghost use Rattle.entries.specs.Raw.{keepsRaw, movedTo, moves, opened, emptyRaw, offsetOf, rawAbbreviation, refusedEntry, taken, rawEntry, rawAttribute, rawAttributes, rawSkip};
-ghost use Rattle.entries.specs.Read.{abbreviationAt, raised};
+ghost use Rattle.entries.specs.Read.{abbreviationAt, codeFor, raised};
 ghost use Rattle.entries.specs.Steps.{KeptRaw, Onward, tookEntry};
 ghost use Rattle.entries.specs.Views.{viewOpened, viewCode, viewRawAbbreviation, viewRawEntry, viewRawPassed, viewRawAttribute, viewRawAttributes, viewRawSkipped};
 use super::entry::Entry;
@@ -141,30 +141,17 @@ pub(crate) fn keeps_depth(depth: i64, position: usize) -> bool
     ((-1 - depth) as usize) < position
 }
 
-// A code; nearly all have one byte.
-pub(crate) fn read_code(bytes: &[u8], at: usize) -> Word
-    ensures { λ r. ⌜ viewWord r ≡ ulebAt (now (bytes .entry)) at 64 ⌝ }
+// What a code stands for. Codes up to `n` are looked up in their own rows. It takes the code and not the
+// bytes: a slice that is handed on once more is waited for.
+fn code_for(code: Word, rows: &[u64], specs: &[u64], n: usize) -> Code
+    ensures { λ r. ⌜ viewCode r ≡ codeFor (directLookup (entryLimit .most) n (now (rows .entry)) (now (specs .entry))) (viewWord code) ⌝ }
 {
-    if at < bytes.len() {
-        let b = bytes[at];
-        if b < 128 {
-            let next = at + 1;
-            return Word::Got(b as u64, next);
-        }
-    }
-    read_uleb128(bytes, at)
-}
-
-// What stands at a place that has a code. Codes up to `n` are looked up in their own rows.
-pub(crate) fn code_direct(bytes: &[u8], rows: &[u64], specs: &[u64], n: usize, at: usize) -> Code
-    ensures { λ r. ⌜ viewCode r ≡ directAt (entryLimit .most) n (now (bytes .entry)) (now (rows .entry)) (now (specs .entry)) at ⌝ }
-{
-    match read_code(bytes, at) {
-        Word::Got(code, next) => {
-            if code == 0 {
+    match code {
+        Word::Got(number, next) => {
+            if number == 0 {
                 return Code::Null(next);
             }
-            match get_direct(rows, specs, n, code) {
+            match get_direct(rows, specs, n, number) {
                 Lookup::Found(abbreviation) => Code::Found(abbreviation, next),
                 Lookup::Absent => Code::Refused(Error::InvalidAbbreviationCode),
                 Lookup::Refused(e) => Code::Refused(e),
@@ -174,11 +161,18 @@ pub(crate) fn code_direct(bytes: &[u8], rows: &[u64], specs: &[u64], n: usize, a
     }
 }
 
+// What stands at a place that has a code.
+pub(crate) fn code_direct(bytes: &[u8], rows: &[u64], specs: &[u64], n: usize, at: usize) -> Code
+    ensures { λ r. ⌜ viewCode r ≡ directAt (entryLimit .most) n (now (bytes .entry)) (now (rows .entry)) (now (specs .entry)) at ⌝ }
+{
+    code_for(read_uleb128(bytes, at), rows, specs, n)
+}
+
 // The same by the lowest row with the code.
 fn code_at(bytes: &[u8], rows: &[u64], specs: &[u64], at: usize) -> Code
     ensures { λ r. ⌜ viewCode r ≡ abbreviationAt (entryLimit .most) (now (bytes .entry)) (now (rows .entry)) (now (specs .entry)) at ⌝ }
 {
-    code_direct(bytes, rows, specs, 0, at)
+    code_for(read_uleb128(bytes, at), rows, specs, 0)
 }
 
 // The state at another place and depth.

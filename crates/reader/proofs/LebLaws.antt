@@ -8,6 +8,7 @@ use native.Mathlib.Nat.{mod-eq-of-lt}
 use native.Mathlib.Numerals.{add-one}
 use borrow.Author.Tests.{lt-ltb, le-ltb}
 use lib.Dec.{ltb}
+use lib.Pow.{pow-mono}
 use lib.ListN.{length, take, drop, getD, length-take, length-drop, drop-of-length-le}
 use lib.Seq.{drop-cons, getD-take, getD-drop, length-take-le}
 use Rattle.reader.specs.Twos.{twos}
@@ -214,3 +215,12 @@ unsigned-open s at w n e = rw e
 pub signed-open : (s : List ℕ) (at w n : ℕ) → extent (mostBytes w) 4 (drop at s) ≡ refused n → slebAt s at w ≡ refused n
 unfolding slebAt leb128
 signed-open s at w n e = rw e
+
+-- a number of one byte
+pub uleb-short : (s : List ℕ) (at width : ℕ) → 7 ≤ width → at < length s → getD s at 0 < 128 → ulebAt s at width ≡ gives (getD s at 0) (at + 1)
+unfolding ulebAt leb128 extent through number
+uleb-short s at width w h l =
+    let b = getD s at 0 in
+    let v : b % 2 ^ 7 + 2 ^ 7 * 0 ≡ b = omega (arith, mod-eq-of-lt l) in
+    let m : mostBytes width ≡ suc (mostBytes width - 1) = omega arith in
+    rw (drop-cons s at 0 h, m, lt-ltb b 128 l, v, lt-ltb b (2 ^ width) (omega (arith, pow-mono {i = 7} {j = width} w)))

@@ -72,7 +72,7 @@ fn whole(v: u64, shift: u64, b: u64, next: usize, width: u64) -> Word
     }
 }
 
-fn unsigned(bytes: &[u8], at: usize, width: u64) -> Word
+fn unsigned_of_parts(bytes: &[u8], at: usize, width: u64) -> Word
     requires { ⌜ (1 ≤ width) × (width ≤ 64) ⌝ }
     ensures { λ r. ⌜ viewWord r ≡ ulebAt (now (bytes .entry)) at width ⌝ }
 {
@@ -81,6 +81,21 @@ fn unsigned(bytes: &[u8], at: usize, width: u64) -> Word
         Parts::Short => Word::Refused(Error::UnexpectedEof),
         Parts::Long => Word::Refused(Error::BadUnsignedLeb128),
     }
+}
+
+// Nearly all numbers have one byte.
+fn unsigned(bytes: &[u8], at: usize, width: u64) -> Word
+    requires { ⌜ (7 ≤ width) × (width ≤ 64) ⌝ }
+    ensures { λ r. ⌜ viewWord r ≡ ulebAt (now (bytes .entry)) at width ⌝ }
+{
+    if at < bytes.len() {
+        let b = wide(bytes[at]);
+        if b < 128 {
+            let next = at + 1;
+            return Word::Got(b, next);
+        }
+    }
+    unsigned_of_parts(bytes, at, width)
 }
 
 pub fn read_uleb128(bytes: &[u8], at: usize) -> Word

@@ -24,7 +24,8 @@ fn proved() {
     values::both(b"form 01", &[3, 0x01, 0], 3, b"\x01\x02\x03");
 }
 
-// The other readings, with an offset that has an entry, and the sum that would wrap.
+// The other readings, with an offset that has an entry, calls on a lent state, and the sum that would
+// wrap.
 fn others() {
     tables::pairs(64);
     tables::pairs(65);
@@ -40,6 +41,7 @@ fn others() {
     units::offset(11);
     units::offset(18);
     units::offset(19);
+    units::lent_calls();
     let block = b"\xff\xff\xff\xff\xff\xff\xff\xff\xff\x01\x00";
     values::both(b"forms 09 and 0b", &[3, 0x09, 0, 3, 0x0b, 0], 8, block);
 }

@@ -9,6 +9,7 @@ use capi::numbers::tehkumir_read_uleb128_u16;
 use capi::numbers::tehkumir_read_word;
 use capi::numbers::tehkumir_skip_leb128;
 use capi::raw::tehkumir_raw;
+use capi::raw::tehkumir_raw_lent;
 use capi::tables::tehkumir_abbreviations;
 use capi::tables::tehkumir_get;
 use capi::units::tehkumir_entry;
@@ -83,6 +84,7 @@ fn call_value(numbers: &[u64; 10], bytes: &[u8], out: &mut [u64]) -> u64 {
 }
 
 fn call_raw(
+    is_lent: bool,
     numbers: &[u64; 10],
     bytes: &[u8],
     rows: &[u64],
@@ -95,6 +97,20 @@ fn call_raw(
     let is_64 = flag(numbers[2]);
     let width = byte(numbers[3]);
     let is_big = flag(numbers[4]);
+    if is_lent {
+        return tehkumir_raw_lent(
+            bytes,
+            start,
+            version,
+            is_64,
+            width,
+            is_big,
+            rows,
+            specs,
+            calls,
+            out,
+        );
+    }
     tehkumir_raw(
         bytes,
         start,
@@ -182,9 +198,10 @@ fn call_on_rows(
             tehkumir_entry(bytes, first, offset, is_big, rows, specs, out)
         }
         10 => tehkumir_get(rows, specs, first, out),
-        12 => call_raw(numbers, bytes, rows, specs, calls, out),
+        12 => call_raw(false, numbers, bytes, rows, specs, calls, out),
         13 => call_cursor(numbers, bytes, rows, specs, calls, out),
-        _ => call_tree(numbers, bytes, rows, specs, levels, out),
+        14 => call_tree(numbers, bytes, rows, specs, levels, out),
+        _ => call_raw(true, numbers, bytes, rows, specs, calls, out),
     }
 }
 

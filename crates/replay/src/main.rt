@@ -85,7 +85,7 @@ fn answers(
     let mut call_space = call_buffer();
     let call_count = words::narrow(levels, &mut call_space);
     let calls = &call_space[..call_count];
-    if kind == 12 || kind == 13 {
+    if kind == 12 || kind == 13 || kind == 15 {
         if call_count < level_count {
             return false;
         }

@@ -7,7 +7,7 @@ use std::num::wrapping_add_u64;
 pub struct Tally {
     pub cases: u64,
     pub differences: u64,
-    pub kinds: [u64; 15],
+    pub kinds: [u64; 16],
     pub is_ended: bool,
 }
 
@@ -35,12 +35,13 @@ fn name(kind: u64) {
         11 => text(b"read_attribute"),
         12 => text(b"raw"),
         13 => text(b"cursor"),
-        _ => text(b"tree"),
+        14 => text(b"tree"),
+        _ => text(b"raw_lent"),
     }
 }
 
 // A line for each kind.
-fn say_kinds(kinds: &[u64; 15]) {
+fn say_kinds(kinds: &[u64; 16]) {
     let mut kind: u64 = 0;
     while kind < KINDS {
         name(kind);
@@ -58,7 +59,7 @@ fn say_difference(case: u64) {
 }
 
 // One case more of a kind; `KINDS` where the case has none.
-fn one_more(kinds: [u64; 15], kind: u64) -> [u64; 15] {
+fn one_more(kinds: [u64; 16], kind: u64) -> [u64; 16] {
     let mut more = kinds;
     if kind < KINDS {
         let at = kind as usize;
@@ -73,7 +74,7 @@ impl Tally {
         Tally {
             cases: 0,
             differences: 0,
-            kinds: [0u64; 15],
+            kinds: [0u64; 16],
             is_ended: false,
         }
     }

@@ -1,6 +1,7 @@
-use Rattle.capi.proofs.OutLaws.{put-then}
-use mathlib.Core.Path.{_∙_}
+use Rattle.capi.proofs.OutLaws.{put-full, put-then}
 use borrow.Author.Needs.{needs}
+use mathlib.Core.Path.{_∙_}
+use native.Mathlib.Omega.{arith}
 use Rattle.capi.proofs.levels.put_answered.Statement.{statement}
 use Rattle.capi.proofs.levels.put_answered.Tie as tie
 
@@ -12,7 +13,18 @@ put-answered-spec =
     (λ c κs. search needs)
     (λ c κs. search needs)
     (λ c κs. search needs)
-    (λ c κs. search needs)
     (λ c. search needs)
     -- returns
-    (λ c. rw (← c .before .before .before .before .before .before .before .before .before .before .before .before .before .before .before .before .bit-of .ensures) (put-then (put-then (c .before .before .before .before .before .before .before .before .before .before .before .before .before .before .put-answer .ensures) (c .before .before .before .before .before .before .before .before .before .before .before .before .before .before .put-answer .kept .0) (put-then (c .before .before .before .before .before .before .before .before .before .before .put .ensures) (c .before .before .before .before .before .before .before .before .before .before .put .kept .0) (c .before .before .before .before .before .before .put-raw .ensures))) (c .before .before .before .before .before .before .put-raw .kept .0 ∙ c .before .before .before .before .before .before .before .before .before .before .put .kept .0 ∙ c .before .before .before .before .before .before .before .before .before .before .before .before .before .before .put-answer .kept .0) (c .before .before .put-entry .ensures))))
+    (λ c.
+    let p = c .before .before .before .put-raw in
+    let b = c .before .before .before .before .before .before .before .put in
+    let q = c .before .before .before .before .before .before .before .before .before .before .before .put-answer in
+    rw (← c .before .before .before .before .before .before .before .before .before .before .before .before .before .bit-of .ensures) (put-then (put-then (q .ensures) (q .kept .0) (put-then (b .ensures) (b .kept .0) (p .ensures))) (p .kept .0 ∙ b .kept .0 ∙ q .kept .0) (put-full _ _ _ (omega (arith, p .ensures .inside, p .kept .0)) (c .if1 .taken))))
+    (λ c κs. search needs)
+    (λ c. search needs)
+    -- returns-2
+    (λ c.
+    let p = c .before .before .before .before .before .before .before .before .put-raw in
+    let b = c .before .before .before .before .before .before .before .before .before .before .before .before .put in
+    let q = c .before .before .before .before .before .before .before .before .before .before .before .before .before .before .before .before .put-answer in
+    rw (← c .before .before .before .before .before .before .before .before .before .before .before .before .before .before .before .before .before .before .bit-of .ensures) (put-then (put-then (q .ensures) (q .kept .0) (put-then (b .ensures) (b .kept .0) (p .ensures))) (p .kept .0 ∙ b .kept .0 ∙ q .kept .0) (c .before .before .put-entry .ensures))))

@@ -10,10 +10,10 @@ use Rattle.capi.proofs.raw.run.Statement.{statement}
 use Rattle.capi.proofs.raw.run.Tie as tie
 
 abbrev Inv-loop : tie.InvT-loop
-Inv-loop bytes rows specs calls out₀ held₀ end₀ i₀ out held end i = Running out₀ (rawCalls (entryLimit .most) bytes rows specs calls held₀) (rawCalls (entryLimit .most) bytes rows specs (drop i calls) held) out end
+Inv-loop bytes rows specs calls out₀ is-lent held₀ end₀ i₀ out held end i = Running out₀ (rawCalls (entryLimit .most) bytes rows specs calls held₀) (rawCalls (entryLimit .most) bytes rows specs (drop i calls) held) out end
 
 abbrev μ-loop : tie.MeasureT-loop
-μ-loop bytes rows specs calls out₀ held₀ end₀ i₀ out held end i = length calls - i
+μ-loop bytes rows specs calls out₀ is-lent held₀ end₀ i₀ out held end i = length calls - i
 
 pub run-spec : {M : Type 1} → statement M
 run-spec =

@@ -1,10 +1,10 @@
-use Rattle.capi.specs.Calls.{skipStep}
+use Rattle.lent.specs.Calls.{skippedCall}
 use borrow.Author.Needs.{needs}
 use Rattle.capi.proofs.raw.skip.Statement.{statement}
 use Rattle.capi.proofs.raw.skip.Tie as tie
 
 pub skip-spec : {M : Type 1} → statement M
-unfolding skipStep
+unfolding skippedCall
 skip-spec =
     tie.close
     (tie.spec

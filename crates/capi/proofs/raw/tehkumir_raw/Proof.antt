@@ -1,4 +1,3 @@
-use Rattle.capi.proofs.OutLaws.{said}
 use borrow.Author.Needs.{needs}
 use Rattle.capi.proofs.raw.tehkumir_raw.Statement.{statement}
 use Rattle.capi.proofs.raw.tehkumir_raw.Tie as tie
@@ -11,13 +10,5 @@ tehkumir-raw-spec =
     (λ c κs. search needs)
     (λ c κs. search needs)
     (λ c. search needs)
-    (λ c κs. search needs)
-    (λ c κs. search needs)
-    (λ c. search needs)
-    (λ c κs. search needs)
-    (λ c. search needs)
     -- returns
-    (λ c. rw (← c .before .before .before .before .before .before .before .before .before .before .before .before .endian-of .ensures, ← c .before .before .before .before .before .before .before .before .before .before .before .before .before .encoding-of .ensures, ← c .before .before .before .before .before .before .before .before .before .before .before .new .ensures, c .before .before .before .before .before .before .before .before .before .raw .given .1) (said (c .before .before .before .before .before .before .run .ensures) (c .before .before .before .before .before .before .run .kept .1 .1 .1 .1 .1 .0) (c .before .before .clear .ensures)))
-    (λ c. search needs)
-    -- returns-2
-    (λ c. rw (← c .before .before .before .before .before .before .before .before .endian-of .ensures, ← c .before .before .before .before .before .before .before .before .before .encoding-of .ensures, ← c .before .before .before .before .before .before .before .new .ensures, c .before .before .before .before .before .e .given .1) (c .before .before .refuse .ensures)))
+    (λ c. rw (← c .before .before .before .before .endian-of .ensures, ← c .before .before .before .before .before .encoding-of .ensures) (c .before .before .open-and-run .ensures)))

@@ -1,6 +1,5 @@
-use Rattle.entries.specs.Cursor.{settled}
 use borrow.Author.Needs.{needs}
-use mathlib.Core.Path.{ap, _≡_, _∙_}
+use mathlib.Core.Path.{_≡_}
 use mir.Syntax.{w64}
 use mir.Val.{toZ, ofZ}
 use Rattle.entries.proofs.cursor.arrive.Statement.{statement}
@@ -12,8 +11,7 @@ arrive-spec =
     (tie.spec
     -- advance-requires
     (λ c κs. c .before .before .before .before .before .pre)
-    (λ c κs. search needs)
     -- returns
     (λ c.
-    let e : toZ w64 (ofZ w64 (c .before .before .before .before .before .before .before .args .here .depth)) ≡ c .before .before .before .before .before .before .before .args .here .depth = search needs in
-    c .settle .ensures ∙ ap settled (rw e at (c .before .advance .ensures))))
+    let e : toZ w64 (ofZ w64 (c .before .before .before .before .before .before .args .here .depth)) ≡ c .before .before .before .before .before .before .args .here .depth = search needs in
+    rw e at (c .advance .ensures)))

@@ -1,7 +1,6 @@
-use Rattle.reader.proofs.LebLaws.{unsigned-parts, unsigned-open}
+use Rattle.reader.proofs.LebLaws.{uleb-short}
 use borrow.Author.Needs.{needs}
-use mathlib.Core.Path.{sym, _∙_}
-use native.Mathlib.Omega.{arith}
+use mathlib.Core.Path.{sym}
 use Rattle.reader.proofs.leb128.unsigned.Statement.{statement}
 use Rattle.reader.proofs.leb128.unsigned.Tie as tie
 
@@ -9,15 +8,10 @@ pub unsigned-spec : {M : Type 1} → statement M
 unsigned-spec =
     tie.close
     (tie.spec
+    (λ c. search needs)
     (λ c κs. search needs)
     (λ c. search needs)
-    -- whole-requires
-    (λ c κs. (omega arith, (rw (c .before .v .given .1) at (c .before .before .before .divide .ensures)) .sound))
-    (λ c. search needs)
-    (λ c. search needs)
     -- returns
-    (λ c. c .whole .ensures ∙ sym (unsigned-parts _ _ _ _ _ _ _ (rw (c .before .before .v .given .1) at (c .before .before .before .before .divide .ensures))))
-    -- returns-2
-    (λ c. sym (unsigned-open _ _ _ 2 ((rw (c .enum-told .given .1) at (c .before .before .divide .ensures)) 3)))
-    -- returns-3
-    (λ c. sym (unsigned-open _ _ _ 3 ((rw (c .enum-told2 .given .1) at (c .before .before .divide .ensures)) 3))))
+    (λ c. rw (c .before .wide .ensures .0) (sym (uleb-short _ _ _ (c .before .before .before .before .before .pre .0) (c .before .before .before .if1 .taken) (rw (c .before .wide .ensures .0) at (c .if2 .taken)))))
+    (λ c κs. search needs)
+    (λ c. search needs))

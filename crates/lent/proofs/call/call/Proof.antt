@@ -1,0 +1,18 @@
+use borrow.Author.Needs.{needs}
+use borrow.Author.Tests.{eq-eqb, ne-eqb}
+use Rattle.lent.proofs.call.call.Statement.{statement}
+use Rattle.lent.proofs.call.call.Tie as tie
+
+pub call-spec : {M : Type 1} → statement M
+call-spec =
+    tie.close
+    (tie.spec
+    (λ c κs. search needs)
+    -- returns
+    (λ c. rw (eq-eqb _ _ (c .before .if1 .taken)) (c .read-entry .ensures))
+    (λ c κs. search needs)
+    -- returns-2
+    (λ c. rw (ne-eqb _ _ (c .before .before .if1 .left), eq-eqb _ _ (c .before .if2 .taken)) (c .skip-entry .ensures))
+    (λ c κs. search needs)
+    -- returns-3
+    (λ c. rw (ne-eqb _ _ (c .before .before .if1 .left), ne-eqb _ _ (c .before .if2 .left)) (c .list-entry .ensures)))

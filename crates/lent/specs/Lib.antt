@@ -1,0 +1,3 @@
+-- The definitions that the contracts of `lent` cite.
+pub mod Views
+pub mod Calls
