@@ -5,14 +5,15 @@ use mathlib.Core.List.{List, [], _∷_}
 use mathlib.Core.Option.{Option, none, some}
 use Prim.Native.Nat.{ℕ, zero, suc, _+_, _-_, _≤_, _<_}
 use native.Mathlib.Omega.{arith}
-use borrow.Author.Tests.{eqb-true, ne-eqb, leb-true, le-leb, lt-leb}
+use borrow.Author.Tests.{eqb-true, ne-eqb, leb-true, leb-false, le-leb, lt-leb}
 use lib.Dec.{eqb, leb}
 use lib.IntN.{ℤ, pos, natAbs}
 use lib.ListN.{length, getD, take, drop, length-take}
 use lib.Seq.{take-nil}
-use Rattle.reader.specs.Answer.{Answer, got, refused, andThen, Read, gives, Holds}
+use Rattle.reader.specs.Answer.{Answer, got, refused, andThen, ifSome, Read, gives, Holds}
 use Rattle.reader.specs.Leb128.{ulebAt}
 use Rattle.reader.proofs.Accepted.{Ends, uleb-ends}
+use Rattle.reader.proofs.Counts.{without-count}
 use Rattle.reader.proofs.Answers.{holds-then, holds-map, cond-by, then-same}
 use Rattle.reader.proofs.PrefixLaws.{Prefixed, prefix-then, prefix-map, prefix-cond, prefix-uleb}
 use Rattle.abbrev.specs.Lookup.{Found, lookup, declarationOf}
@@ -22,7 +23,7 @@ use Rattle.attribute.proofs.FormLaws.{true-false}
 use Rattle.attribute.proofs.PrefixLaws.{prefix-attributes}
 use Rattle.attribute.proofs.ReadLaws.{Onward, attributes-past}
 use Rattle.entries.specs.Entry.{Entry, isNull}
-use Rattle.entries.specs.Flat.{Item, placeAt, depthAt, itemsWithin, itemsFrom}
+use Rattle.entries.specs.Flat.{Item, placeAt, depthAt, Stop, Reading, nothing, before, readOn, allOf, readWithin, readFrom, itemsFrom}
 use Rattle.entries.specs.Read.{Source, known, abbreviationAt, depthAfter, afterEntry, entryAfter, entryAt}
 use Rattle.entries.proofs.DepthLaws.{abs-up, abs-down}
 use Rattle.entries.proofs.RawLaws.{abbreviation-in, found-keeps, tagged}
@@ -129,33 +130,51 @@ module _ (most : ℕ) (src : Source) (s rows specs : List ℕ) where
   flat-near l c n z h = omega (arith, depths-near 0 (pos 0) l c n z h)
 
   module _ (last : Entry → Bool) where
-    -- an item, and what f gives after it
-    abbrev step : (Item → Answer (List Item)) → ℕ → ℤ → Answer (List Item)
-    step f at d =
-        cond (leb (length s) at) (got [])
-        (andThen (entryAt most src s rows specs at d) (λ i. cond (last (i .value)) (got (i ∷ [])) (andThen (f i) (λ l. got (i ∷ l)))))
+    -- one item, and what f gives after it
+    abbrev step : (ℕ × ℤ → Reading) → ℕ × ℤ → Reading
+    step f (at, d) = cond (leb (length s) at) nothing (readOn last at d (λ i. f (i .next, afterEntry (i .value))) (entryAt most src s rows specs at d))
 
-    step-same : (f g : Item → Answer (List Item)) (at : ℕ) (d : ℤ) → ((i : Item) → Stands at d i → f i ≡ g i) → step f at d ≡ step g at d
-    step-same f g at d h =
-        ap (cond (leb (length s) at) (got []))
-        (then-same (Stands at d) (entryAt most src s rows specs at d) _ _ (entry-stands at d)
-        (λ i x. ap (λ (r : Answer (List Item)). cond (last (i .value)) (got (i ∷ [])) (andThen r (λ l. got (i ∷ l)))) (h i x)))
+    abbrev size : ℕ × ℤ → ℕ
+    size (at, d) = length s - at
 
-    -- two counts that suffice give the same
-    within-same : (n m at : ℕ) (d : ℤ) → length s - at ≤ n → length s - at ≤ m → itemsWithin most src s rows specs last n at d ≡ itemsWithin most src s rows specs last m at d
-    unfolding itemsWithin
-    within-same zero zero at d h k = refl
-    within-same zero (suc m) at d h k = rw (le-leb (length s) at (omega arith))
-    within-same (suc n) zero at d h k = rw (le-leb (length s) at (omega arith))
-    within-same (suc n) (suc m) at d h k =
-        step-same (λ i. itemsWithin most src s rows specs last n (i .next) (afterEntry (i .value))) _ at d
-        (λ i x. within-same n m (i .next) (afterEntry (i .value)) (omega (arith, x .above, x .within)) (omega (arith, x .above, x .within)))
+    local : (f g : ℕ × ℤ → Reading) (x : ℕ × ℤ) → ((y : ℕ × ℤ) → size y < size x → f y ≡ g y) → step f x ≡ step g x
+    local f g (at, d) h =
+        by (leb (length s) at) refl
+      where
+        on : (r : Answer Item) → Holds (Stands at d) r → at < length s → readOn last at d (λ i. f (i .next, afterEntry (i .value))) r ≡ readOn last at d (λ i. g (i .next, afterEntry (i .value))) r
+        on (got i) z l = ap (λ (r : Reading). before i (cond (last (i .value)) nothing r)) (h (i .next, afterEntry (i .value)) (omega (arith, z .above, z .within)))
+        on (refused n) z l = refl
+
+        by : (b : Bool) → leb (length s) at ≡ b → cond b nothing (readOn last at d (λ i. f (i .next, afterEntry (i .value))) (entryAt most src s rows specs at d)) ≡ cond b nothing (readOn last at d (λ i. g (i .next, afterEntry (i .value))) (entryAt most src s rows specs at d))
+        by true q = refl
+        by false q = on (entryAt most src s rows specs at d) (entry-stands at d) (leb-false (length s) at q)
 
     -- the definition without its count
+    pub reading-step : (at : ℕ) (d : ℤ) → readFrom most src s rows specs last at d ≡ cond (leb (length s) at) nothing (readOn last at d (λ i. readFrom most src s rows specs last (i .next) (afterEntry (i .value))) (entryAt most src s rows specs at d))
+    unfolding readFrom readWithin
+    reading-step at d =
+        without-count size step (λ n x. readWithin most src s rows specs last n (x .0) (x .1)) (λ n x. refl) local
+        (λ f x e. sym (rw (le-leb (length s) (x .0) (omega arith)))) (at, d)
+
     pub items-step : (at : ℕ) (d : ℤ) → itemsFrom most src s rows specs last at d ≡ cond (leb (length s) at) (got []) (andThen (entryAt most src s rows specs at d) (λ i. cond (last (i .value)) (got (i ∷ [])) (andThen (itemsFrom most src s rows specs last (i .next) (afterEntry (i .value))) (λ l. got (i ∷ l)))))
-    unfolding itemsFrom itemsWithin
-    items-step at d =
-        within-same (length s - at) (suc (length s)) at d (omega arith) (omega arith) ∙ step-same (λ i. itemsWithin most src s rows specs last (length s) (i .next) (afterEntry (i .value))) _ at d (λ i x. within-same (length s) (length s - i .next) (i .next) (afterEntry (i .value)) (omega arith) (omega arith))
+    unfolding itemsFrom
+    items-step at d = ap allOf (reading-step at d) ∙ by (leb (length s) at) (entryAt most src s rows specs at d)
+      where
+        more : Item → Reading
+        more i = readFrom most src s rows specs last (i .next) (afterEntry (i .value))
+
+        stopped : (i : Item) (b : Bool) (r : Reading) → allOf (before i (cond b nothing r)) ≡ cond b (got (i ∷ [])) (andThen (allOf r) (λ l. got (i ∷ l)))
+        stopped i true r = refl
+        stopped i false r = by-stop (r .stop) (r .items)
+          where
+            by-stop : (o : Option Stop) (l : List Item) → ifSome o (got (i ∷ l)) (λ x. refused (x .number)) ≡ andThen (ifSome o (got l) (λ x. refused (x .number))) (λ l. got (i ∷ l))
+            by-stop none l = refl
+            by-stop (some x) l = refl
+
+        by : (b : Bool) (r : Answer Item) → allOf (cond b nothing (readOn last at d more r)) ≡ cond b (got []) (andThen r (λ i. cond (last (i .value)) (got (i ∷ [])) (andThen (allOf (more i)) (λ l. got (i ∷ l)))))
+        by true r = refl
+        by false (got i) = stopped i (last (i .value)) (more i)
+        by false (refused n) = refl
 
     -- no byte is left, or an item stands there; none follows the last one, and another is followed by what is read behind it
     abbrev pub Opens : ℕ → ℤ → List Item → Type 0

@@ -1,11 +1,12 @@
 -- A unit read flat.
 use mathlib.Core.Bool.{Bool, false, cond}
 use mathlib.Core.List.{List, [], _∷_}
+use mathlib.Core.Option.{Option, none, some}
 use Prim.Native.Nat.{ℕ, zero, suc, _-_}
 use lib.Dec.{leb}
 use lib.IntN.{ℤ, pos}
 use lib.ListN.{length}
-use Rattle.reader.specs.Answer.{Answer, got, andThen, Read}
+use Rattle.reader.specs.Answer.{Answer, got, refused, andThen, ifSome, Read}
 use Rattle.reader.specs.declared.endianity.RunTimeEndian.{RunTimeEndian}
 use Rattle.unit.specs.Header.{sizeOfHeader}
 use Rattle.unit.specs.Range.{entriesBuf}
@@ -28,22 +29,48 @@ depthAt d l zero = d
 depthAt d [] (suc n) = d
 depthAt d (i ∷ l) (suc n) = depthAt (afterEntry (i .value)) l n
 
-module _ (most : ℕ) (src : Source) (s rows specs : List ℕ) where
-  -- items read raw one after another, until no byte is left or one is the last; n at most
-  unfoldable pub itemsWithin : (Entry → Bool) → ℕ → ℕ → ℤ → Answer (List Item)
-  itemsWithin last zero at d = got []
-  itemsWithin last (suc n) at d =
-      cond (leb (length s) at)
-      (got [])
-      (andThen (entryAt most src s rows specs at d)
-      (λ i.
-      cond (last (i .value))
-      (got (i ∷ []))
-      (andThen (itemsWithin last n (i .next) (afterEntry (i .value))) (λ l. got (i ∷ l)))))
+-- a refusal: its number, and the place and depth of the refused entry
+pub record Stop : Type 0 where
+  pub number : ℕ
+  pub at : ℕ
+  pub depth : ℤ
 
-  -- each takes a byte, so that the bytes run out first (`items-step`)
+-- items read raw one after another, and the refusal that ended them
+pub record Reading : Type 0 where
+  pub items : List Item
+  pub stop : Option Stop
+
+-- no item is left
+abbrev pub nothing : Reading
+nothing = record { items = []; stop = none }
+
+abbrev pub before : Item → Reading → Reading
+before i r = record { items = i ∷ r .items; stop = r .stop }
+
+-- an item that was read and, unless it is the last, what follows it; or a refusal
+abbrev pub readOn : (Entry → Bool) → ℕ → ℤ → (Item → Reading) → Answer Item → Reading
+readOn last at d more (got i) = before i (cond (last (i .value)) nothing (more i))
+readOn last at d more (refused n) = record { items = []; stop = some (record { number = n; at = at; depth = d }) }
+
+-- all items, or the refusal
+abbrev pub allOf : Reading → Answer (List Item)
+allOf r = ifSome (r .stop) (got (r .items)) (λ x. refused (x .number))
+
+module _ (most : ℕ) (src : Source) (s rows specs : List ℕ) where
+  -- until no byte is left, one is the last, or an entry is refused; n at most
+  unfoldable pub readWithin : (Entry → Bool) → ℕ → ℕ → ℤ → Reading
+  readWithin last zero at d = nothing
+  readWithin last (suc n) at d =
+      cond (leb (length s) at)
+      nothing
+      (readOn last at d (λ i. readWithin last n (i .next) (afterEntry (i .value))) (entryAt most src s rows specs at d))
+
+  -- each takes a byte, so that the bytes run out first (`reading-step`)
+  unfoldable pub readFrom : (Entry → Bool) → ℕ → ℤ → Reading
+  readFrom last at d = readWithin last (length s - at) at d
+
   unfoldable pub itemsFrom : (Entry → Bool) → ℕ → ℤ → Answer (List Item)
-  itemsFrom last at d = itemsWithin last (length s - at) at d
+  itemsFrom last at d = allOf (readFrom last at d)
 
 -- 01, "Walks": the flat reading of a unit reads entries raw from the header's size until no byte is left
 unfoldable pub flatReading : ℕ → UnitHeader → List ℕ → List ℕ → List ℕ → RunTimeEndian → Answer (List Item)

@@ -18,9 +18,10 @@ use Rattle.entries.specs.Raw.{movedTo, sourceOf, Moved, rawEntry}
 use Rattle.entries.specs.Read.{Source, entryAt, afterEntry}
 use Rattle.entries.specs.Steps.{KeptRaw}
 use Rattle.entries.specs.declared.raw.EntriesRaw.{EntriesRaw}
-use Rattle.entries.proofs.FlatLaws.{Stands, entry-stands}
+use Rattle.entries.specs.Flat.{Item, Reading, nothing, readOn, readFrom}
+use Rattle.entries.proofs.FlatLaws.{Stands, reading-step}
 use Rattle.entries.proofs.SeekLaws.{stands, item-kept, was-read, was-refused}
-use Rattle.listing.specs.Listing.{orStop, itemLine, itemsWithin, itemLines}
+use Rattle.listing.specs.Listing.{orStop, itemLine, readLines, itemLines}
 use Rattle.listing.specs.Piece.{Part, partOf, adds}
 use Rattle.listing.specs.Text.{Line, entryLine, nullLine, refusedLine}
 use Rattle.listing.specs.Written.{Held, Added, Written, refusal}
@@ -31,52 +32,21 @@ use Rattle.listing.proofs.PieceLaws.{added-in, written-in, adds-full, f
 -- ---- the definition without its count
 
 module _ (most : ℕ) (src : Source) (s rows specs : List ℕ) where
-  stop-same : (r : Answer (Read Entry)) (f g : Read Entry → List Line) → Holds (λ i. f i ≡ g i) r → orStop r f ≡ orStop r g
-  stop-same (got i) f g h = h
-  stop-same (refused n) f g h = refl
-
-  further : (at : ℕ) (d : ℤ) → Holds (λ i. at < i .next) (entryAt most src s rows specs at d)
-  further at d = go (entryAt most src s rows specs at d) (entry-stands most src s rows specs at d)
-    where
-      go : (r : Answer (Read Entry)) → Holds (Stands most src s rows specs at d) r → Holds (λ i. at < i .next) r
-      go (got i) z = z .above
-      go (refused n) z = tt
-
-  follow : (n m : ℕ) (at : ℕ) (d : ℤ) (rest : List Line) → length s ≤ suc n + at → length s ≤ suc m + at
-      → ((i : Read Entry) → length s ≤ n + i .next → length s ≤ m + i .next → itemsWithin most src s rows specs n (i .next) (afterEntry (i .value)) rest ≡ itemsWithin most src s rows specs m (i .next) (afterEntry (i .value)) rest)
-      → orStop (entryAt most src s rows specs at d) (λ i. itemLine (i .value) ∷ itemsWithin most src s rows specs n (i .next) (afterEntry (i .value)) rest)
-      ≡ orStop (entryAt most src s rows specs at d) (λ i. itemLine (i .value) ∷ itemsWithin most src s rows specs m (i .next) (afterEntry (i .value)) rest)
-  follow n m at d rest h k f = go (entryAt most src s rows specs at d) (further at d)
-    where
-      go : (r : Answer (Read Entry)) → Holds (λ i. at < i .next) r
-          → orStop r (λ i. itemLine (i .value) ∷ itemsWithin most src s rows specs n (i .next) (afterEntry (i .value)) rest)
-          ≡ orStop r (λ i. itemLine (i .value) ∷ itemsWithin most src s rows specs m (i .next) (afterEntry (i .value)) rest)
-      go (got i) z = ap (λ (l : List Line). itemLine (i .value) ∷ l) (f i (omega arith) (omega arith))
-      go (refused n) z = refl
-
-  same-within : (n m : ℕ) (at : ℕ) (d : ℤ) (rest : List Line) → length s ≤ n + at → length s ≤ m + at
-      → itemsWithin most src s rows specs n at d rest ≡ itemsWithin most src s rows specs m at d rest
-  unfolding itemsWithin
-  same-within zero zero at d rest h k = refl
-  same-within zero (suc m) at d rest h k = rw (le-leb (length s) at (omega arith))
-  same-within (suc n) zero at d rest h k = rw (le-leb (length s) at (omega arith))
-  same-within (suc n) (suc m) at d rest h k =
-      ap (cond (leb (length s) at) rest) (follow n m at d rest h k (λ i a b. same-within n m (i .next) (afterEntry (i .value)) rest a b))
-
   pub lines-step : (at : ℕ) (d : ℤ) (rest : List Line)
       → itemLines most src s rows specs at d rest
       ≡ cond (leb (length s) at) rest (orStop (entryAt most src s rows specs at d) (λ i. itemLine (i .value) ∷ itemLines most src s rows specs (i .next) (afterEntry (i .value)) rest))
-  unfolding itemLines itemsWithin
+  unfolding itemLines
   lines-step at d rest =
-      let n = length s - at in
-      same-within n (suc n) at d rest (omega arith) (omega arith)
-      ∙ ap (cond (leb (length s) at) rest) (go (entryAt most src s rows specs at d) (further at d))
+      ap (λ (r : Reading). readLines r rest) (reading-step most src s rows specs (λ (x : Entry). false) at d)
+      ∙ by (leb (length s) at) (entryAt most src s rows specs at d)
     where
-      go : (r : Answer (Read Entry)) → Holds (λ i. at < i .next) r
-          → orStop r (λ i. itemLine (i .value) ∷ itemsWithin most src s rows specs (length s - at) (i .next) (afterEntry (i .value)) rest)
-          ≡ orStop r (λ i. itemLine (i .value) ∷ itemsWithin most src s rows specs (length s - i .next) (i .next) (afterEntry (i .value)) rest)
-      go (got i) z = ap (λ (l : List Line). itemLine (i .value) ∷ l) (same-within (length s - at) (length s - i .next) (i .next) (afterEntry (i .value)) rest (omega arith) (omega arith))
-      go (refused n) z = refl
+      more : Item → Reading
+      more i = readFrom most src s rows specs (λ (x : Entry). false) (i .next) (afterEntry (i .value))
+
+      by : (b : Bool) (r : Answer Item) → readLines (cond b nothing (readOn (λ (x : Entry). false) at d more r)) rest ≡ cond b rest (orStop r (λ i. itemLine (i .value) ∷ readLines (more i) rest))
+      by true r = refl
+      by false (got i) = refl
+      by false (refused n) = refl
 
 -- ---- lines that fit
 

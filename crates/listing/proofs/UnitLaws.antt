@@ -25,14 +25,19 @@ use Rattle.unit.specs.Units.{Advanced, advanced, nextUnit}
 use Rattle.unit.specs.declared.header.UnitHeader.{UnitHeader}
 use Rattle.unit.proofs.ParseLaws.{HeaderIn, header-in}
 use Rattle.entries.specs.Entry.{Entry}
+use Rattle.entries.specs.Flat.{Reading, nothing, before, readOn, readWithin, readFrom}
 use Rattle.entries.specs.Read.{Source, known, abbreviationAt, entryAt, entryAfter, afterEntry}
-use Rattle.listing.specs.Listing.{orStop, headLine, itemLine, itemsWithin, itemLines, tableRows, tableSpecs, Shelf, unitEntries, unitAll, unitsWithin, unitLines, listing}
+use Rattle.listing.specs.Listing.{orStop, headLine, itemLine, readLines, itemLines, tableRows, tableSpecs, Shelf, unitEntries, unitAll, unitsWithin, unitLines, listing}
 use Rattle.listing.specs.Piece.{partOf, adds}
 use Rattle.listing.specs.Text.{Line, endLine, refusedLine}
 use Rattle.listing.specs.Written.{Held, Added, Written, Whole}
 use Rattle.listing.specs.declared.list.Wrote.{Wrote}
 use Rattle.listing.specs.declared.piece.Piece.{Piece}
 use Rattle.listing.proofs.PieceLaws.{added-in, written-in}
+
+-- no item is the last
+abbrev none-last : Entry → Bool
+none-last x = false
 
 -- ---- tables: whichever row holds which declaration, the lines are the same
 
@@ -51,21 +56,18 @@ module _ (most : ℕ) (src : Source) (s rows rows' specs : List ℕ) (h : (c : �
   unfolding entryAt
   entry-same at d = ap (λ (r : Answer (Read (Option Found))). andThen r (entryAfter most src s specs at d)) (code-same at)
 
-  -- what follows an item
-  abbrev follows : List ℕ → ℕ → List Line → Read Entry → List Line
-  follows table n rest i = itemLine (i .value) ∷ itemsWithin most src s table specs n (i .next) (afterEntry (i .value)) rest
+  on-same : (n at : ℕ) (d : ℤ) → ((at : ℕ) (d : ℤ) → readWithin most src s rows specs none-last n at d ≡ readWithin most src s rows' specs none-last n at d)
+      → (r : Answer (Read Entry)) → readOn none-last at d (λ i. readWithin most src s rows specs none-last n (i .next) (afterEntry (i .value))) r ≡ readOn none-last at d (λ i. readWithin most src s rows' specs none-last n (i .next) (afterEntry (i .value))) r
+  on-same n at d f (got i) = ap (before i) (f (i .next) (afterEntry (i .value)))
+  on-same n at d f (refused m) = refl
 
-  each : (n : ℕ) (rest : List Line) → ((at : ℕ) (d : ℤ) → itemsWithin most src s rows specs n at d rest ≡ itemsWithin most src s rows' specs n at d rest)
-      → (r : Answer (Read Entry)) → orStop r (follows rows n rest) ≡ orStop r (follows rows' n rest)
-  each n rest f (got i) = ap (λ (l : List Line). itemLine (i .value) ∷ l) (f (i .next) (afterEntry (i .value)))
-  each n rest f (refused m) = refl
-
-  within-same : (n at : ℕ) (d : ℤ) (rest : List Line) → itemsWithin most src s rows specs n at d rest ≡ itemsWithin most src s rows' specs n at d rest
-  unfolding itemsWithin
-  within-same zero at d rest = refl
-  within-same (suc n) at d rest =
-      ap (cond (leb (length s) at) rest)
-      (each n rest (λ a e. within-same n a e rest) (entryAt most src s rows specs at d) ∙ ap (λ (x : Answer (Read Entry)). orStop x (follows rows' n rest)) (entry-same at d))
+  within-same : (n at : ℕ) (d : ℤ) → readWithin most src s rows specs none-last n at d ≡ readWithin most src s rows' specs none-last n at d
+  unfolding readWithin
+  within-same zero at d = refl
+  within-same (suc n) at d =
+      ap (cond (leb (length s) at) nothing)
+      (on-same n at d (λ a e. within-same n a e) (entryAt most src s rows specs at d)
+      ∙ ap (readOn none-last at d (λ i. readWithin most src s rows' specs none-last n (i .next) (afterEntry (i .value)))) (entry-same at d))
 
 perm-same : (l : List Row) → List·Permᴰ l l
 perm-same [] = List·Permᴰ·nil
@@ -77,10 +79,11 @@ in-order {t = t} L = record { rowChoice = rowsFrom 0 t; all = perm-same (rowsFro
 
 pub laid-lines : {m k : ℕ} {rows specs : List ℕ} {t : List Declaration} (most : ℕ) (src : Source) (s : List ℕ) → Sound most t → Laid m k rows specs t
     → (at : ℕ) (d : ℤ) (rest : List Line) → itemLines most src s rows specs at d rest ≡ itemLines most src s (tableRows m t) (tableSpecs k t) at d rest
-unfolding itemLines
+unfolding itemLines readFrom
 laid-lines {m} {k} {rows} {specs} {t} most src s S L at d rest =
-    within-same most src s rows (tableRows m t) specs (lookup-same most S L (in-order L)) (length s - at) at d rest
-    ∙ ap (λ (x : List ℕ). itemsWithin most src s (tableRows m t) x (length s - at) at d rest) (L .specs-are)
+    ap (λ (r : Reading). readLines r rest)
+    (within-same most src s rows (tableRows m t) specs (lookup-same most S L (in-order L)) (length s - at) at d
+    ∙ ap (λ (x : List ℕ). readWithin most src s (tableRows m t) x none-last (length s - at) at d) (L .specs-are))
 
 -- ---- units
 

@@ -1,5 +1,5 @@
 -- What `shelflist` prints of two sections (document 01, "Readings"), as lines.
-use mathlib.Core.Bool.{cond}
+use mathlib.Core.Bool.{false, cond}
 use mathlib.Core.List.{List, [], _∷_, _++_}
 use Prim.Native.Nat.{ℕ, zero, suc, _-_, _*_, _/_}
 use lib.Dec.{eqb, leb}
@@ -15,7 +15,8 @@ use Rattle.unit.specs.Range.{unitBytes, entriesBuf}
 use Rattle.unit.specs.Units.{nextUnit}
 use Rattle.unit.specs.declared.header.UnitHeader.{UnitHeader}
 use Rattle.entries.specs.Entry.{Entry, isNull}
-use Rattle.entries.specs.Read.{Source, entryAt, afterEntry}
+use Rattle.entries.specs.Flat.{Item, Reading, readFrom}
+use Rattle.entries.specs.Read.{Source}
 use Rattle.listing.specs.Text.{Line, unitLine, entryLine, nullLine, refusedLine, endLine}
 
 -- what follows an answer; a refusal prints a line and stops
@@ -31,18 +32,18 @@ headLine h = unitLine (h .offset) (h .encoding .version) (8 * wordSize (h .encod
 abbrev pub itemLine : Entry → Line
 itemLine e = cond (isNull e) (nullLine (e .offset) (e .depth)) (entryLine (e .offset) (e .depth) (e .tag) (e .count))
 
-module _ (most : ℕ) (src : Source) (s rows specs : List ℕ) where
-  -- the items from a place and a depth on, n at most, and what follows them
-  unfoldable pub itemsWithin : ℕ → ℕ → ℤ → List Line → List Line
-  itemsWithin zero at d rest = rest
-  itemsWithin (suc n) at d rest =
-      cond (leb (length s) at)
-      rest
-      (orStop (entryAt most src s rows specs at d) (λ i. itemLine (i .value) ∷ itemsWithin n (i .next) (afterEntry (i .value)) rest))
+-- the lines of items, and what follows them
+abbrev pub linesThen : List Item → List Line → List Line
+linesThen [] rest = rest
+linesThen (i ∷ l) rest = itemLine (i .value) ∷ linesThen l rest
 
-  -- each takes a byte, so that the bytes run out first (`lines-step`)
-  unfoldable pub itemLines : ℕ → ℤ → List Line → List Line
-  itemLines at d rest = itemsWithin (length s - at) at d rest
+-- a refusal is the last line
+abbrev pub readLines : Reading → List Line → List Line
+readLines r rest = linesThen (r .items) (ifSome (r .stop) rest (λ x. refusedLine (x .number) ∷ []))
+
+-- the items from a place and a depth on, and what follows them
+unfoldable pub itemLines : (most : ℕ) (src : Source) (s rows specs : List ℕ) → ℕ → ℤ → List Line → List Line
+itemLines most src s rows specs at d rest = readLines (readFrom most src s rows specs (λ (x : Entry). false) at d) rest
 
 -- a table in so many lent words, in file order
 abbrev pub tableRows : ℕ → List Declaration → List ℕ

@@ -9,3 +9,4 @@ pub mod LimitLaws
 pub mod FieldLaws
 pub mod Determined
 pub mod PrefixLaws
+pub mod Counts
