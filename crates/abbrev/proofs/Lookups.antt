@@ -13,7 +13,7 @@ use lib.ListN.{length, take, drop, getD, replicate, length-append}
 use lib.Seq.{getD-take, getD-drop, take-at, drop-at}
 use Rattle.reader.specs.Answer.{Answer, got, refused, andThen, Holds}
 use Rattle.reader.proofs.Answers.{cond-by}
-use Rattle.abbrev.specs.Lookup.{column, indexOf, specAt, specsFrom, fair, allFair, specificationAt, attributeAt, Found, rowAt, specsKept, keepsSizes, judgedRow, rowFound, leading, lookup, directLookup, declarationOf, declaredIn}
+use Rattle.abbrev.specs.Lookup.{column, indexOf, specAt, specsFrom, fair, allFair, specificationAt, attributeAt, Found, rowAt, specsKept, keepsSizes, judgedRow, rowFound, leading, lookup, declarationOf, declaredIn}
 use Rattle.abbrev.specs.Rows.{specWords, allSpecs, Row, rowWords, rowsWords, rowsFrom, Laid, Left}
 use Rattle.abbrev.specs.Table.{Specification, Declaration, Limit, abbreviationsAt}
 use Rattle.abbrev.proofs.Attributes.{words-append}
@@ -319,18 +319,11 @@ lookup-keeps most rows specs code =
     (λ _. cond-by (Holds (Keeps most specs)) (keepsSizes most specs (rowAt rows (indexOf code (column (length rows / 5) rows)))) _ (refused 1) (λ h. h) (λ _. tt))
     (λ _. tt))
 
--- where the first n rows hold the codes 1, 2, 3, .., the direct lookup answers as the lookup does
-pub direct-lookup : (most n : ℕ) (rows specs : List ℕ) (code : ℕ) → n ≤ leading rows → directLookup most n rows specs code ≡ lookup most rows specs code
-unfolding directLookup lookup leading
-direct-lookup most n rows specs code h = by (ltb 0 code && leb code n) refl
-  where
-    by : (b : Bool) → (ltb 0 code && leb code n) ≡ b → cond b (rowFound most rows specs (code - 1)) (lookup most rows specs code) ≡ lookup most rows specs code
-    by true e =
-        let t = both (ltb 0 code) (leb code n) e in
-        let p : 0 < code = ltb-true 0 code (t .0) in
-        let q : code ≤ n = leb-true code n (t .1) in
-        let f : code - 1 + 1 ≡ code = omega arith in
-        let g = leading-index 1 (code - 1) (column (length rows / 5) rows) (omega arith) in
-        let i : indexOf code (column (length rows / 5) rows) ≡ code - 1 = rw f at g in
-        rw (ne-eqb code 0 (λ z. omega arith), i)
-    by false e = refl
+-- where the first n rows hold the codes 1, 2, 3, .., a code up to n is found in its own row
+pub direct-row : (most n : ℕ) (rows specs : List ℕ) (code : ℕ) → n ≤ leading rows → 0 < code → code ≤ n → rowFound most rows specs (code - 1) ≡ lookup most rows specs code
+unfolding lookup leading
+direct-row most n rows specs code h p q =
+    let f : code - 1 + 1 ≡ code = omega arith in
+    let g = leading-index 1 (code - 1) (column (length rows / 5) rows) (omega arith) in
+    let i : indexOf code (column (length rows / 5) rows) ≡ code - 1 = rw f at g in
+    rw (ne-eqb code 0 (λ z. omega arith), i)

@@ -87,11 +87,6 @@ unfoldable pub lookup : ℕ → List ℕ → List ℕ → ℕ → Answer (Option
 lookup most rows specs code =
     cond (eqb code 0) (got none) (rowFound most rows specs (indexOf code (column (length rows / 5) rows)))
 
--- a code up to n is looked up in its own row, which is right where the first n rows hold 1, 2, 3, .. (`direct-lookup`); any other in the lowest
-unfoldable pub directLookup : ℕ → ℕ → List ℕ → List ℕ → ℕ → Answer (Option Found)
-directLookup most n rows specs code =
-    cond (ltb 0 code && leb code n) (rowFound most rows specs (code - 1)) (lookup most rows specs code)
-
 -- the declaration that a found row stands for
 abbrev pub declarationOf : List ℕ → Found → Declaration
 declarationOf specs f =

@@ -4,7 +4,7 @@ ghost use mathlib.Core.Path.{_≡_};
 ghost use Prim.Native.Nat.{_+_, _*_, _/_, _≤_};
 ghost use lib.Dec.{eqb};
 ghost use lib.ListN.{length, drop};
-ghost use Rattle.abbrev.specs.Lookup.{specsFrom, allFair, specsKept, keepsSizes, judgedRow, rowFound, leading, lookup, directLookup, specificationAt, attributeAt, implicitConstOf};
+ghost use Rattle.abbrev.specs.Lookup.{specsFrom, allFair, specsKept, keepsSizes, judgedRow, rowFound, leading, lookup, specificationAt, attributeAt, implicitConstOf};
 ghost use Rattle.abbrev.specs.Table.{entryLimit};
 ghost use Rattle.abbrev.specs.Views.{viewLookup, viewSpecified, viewConstant, foundOf, specificationOf};
 use super::rows::find;
@@ -150,20 +150,6 @@ pub fn leading(rows: &[u64]) -> usize
         i += 1;
     }
     n
-}
-
-// `get` where the first `n` rows are known to hold the codes 1, 2, 3, ..
-pub fn get_direct(rows: &[u64], specs: &[u64], n: usize, code: u64) -> Lookup
-    ensures { λ r. ⌜ viewLookup r ≡ directLookup (entryLimit .most) n (now (rows .entry)) (now (specs .entry)) code ⌝ }
-{
-    if code == 0 {
-        return Lookup::Absent;
-    }
-    if (n as u64) < code {
-        return get(rows, specs, code);
-    }
-    let i = (code - 1) as usize;
-    row(rows, specs, i)
 }
 
 // One specification row by its number.

@@ -5,5 +5,6 @@ pub mod RawLaws
 pub mod FlatLaws
 pub mod SeekLaws
 pub mod PassLaws
+pub mod RunLaws
 pub mod CursorLaws
 pub mod OpenLaws

@@ -16,9 +16,8 @@ use Rattle.reader.specs.Leb128.{ulebAt}
 use Rattle.reader.specs.declared.common.Encoding.{Encoding}
 use Rattle.reader.specs.declared.endianity.RunTimeEndian.{RunTimeEndian}
 use Rattle.reader.proofs.Answers.{holds-then, holds-map}
-use Rattle.abbrev.specs.Lookup.{Found, leading, specsFrom, declarationOf}
+use Rattle.abbrev.specs.Lookup.{Found, keepsSizes, specsFrom, declarationOf}
 use Rattle.abbrev.specs.Table.{Specification}
-use Rattle.abbrev.proofs.Lookups.{kept}
 use Rattle.attribute.specs.Attributes.{pad, readAttributes}
 use Rattle.attribute.specs.Read.{formAt, attributeAt, attributesAt}
 use Rattle.attribute.specs.Value.{Attribute}
@@ -27,14 +26,14 @@ use Rattle.attribute.proofs.FormLaws.{true-false}
 use Rattle.attribute.proofs.ListLaws.{read-kept}
 use Rattle.entries.specs.Cursor.{Cursor, jumped, plainly, byJump, isEntry, standsAt, depthPast, itemNext}
 use Rattle.entries.specs.Entry.{Entry, nullEntry, entryOf, named, attrOf, sibling, siblingOf, jumpOf}
-use Rattle.entries.specs.Pass.{directAt, passedTo, passedAfter, rawPassed, told}
-use Rattle.entries.specs.Raw.{keepsRaw, movedTo, moves, judged, sourceOf, Taken, taken as takenFrom, rawEntry}
+use Rattle.entries.specs.Pass.{Passed, passedTo, told}
+use Rattle.entries.specs.Raw.{keepsRaw, movedTo, Moved, moves, sourceOf, Taken, taken as takenFrom, rawEntry}
 use Rattle.entries.specs.Read.{abbreviationAt, raised, depthAfter, entryAfter, entryAt, sameDepth}
 use Rattle.entries.specs.Steps.{KeptRaw, namesAny, pastValues, pastPlain, pastItem, passedItem, Arrived}
 use Rattle.entries.specs.declared.pass.Passing.{Passing}
 use Rattle.entries.specs.declared.raw.EntriesRaw.{EntriesRaw}
 use Rattle.entries.proofs.EntryLaws.{jump-with, jump-without}
-use Rattle.entries.proofs.RawLaws.{raw-kept, abbreviation-in, direct-in, direct-at, found-keeps, direct-keeps, tagged}
+use Rattle.entries.proofs.RawLaws.{raw-kept, abbreviation-in, found-keeps, tagged}
 use Rattle.entries.proofs.SeekLaws.{jump-forward, jump-kept, jump-none, stands, item-kept, was-read, was-refused, code-null, null-next, entry-next, Sought, sought-found, sought-further}
 use Rattle.entries.proofs.FlatLaws.{Stands}
 
@@ -187,48 +186,33 @@ module _ (most : ℕ) (s rows specs : List ℕ) (w : EntriesRaw) where
     unfolding passedItem
     read-not-passed h = rw (was-refused most s rows specs w k e h)
 
--- ---- what is told of an item passed
+-- ---- what is told of an item passed is what reading it whole would tell
 
-module _ (most n : ℕ) (w : EntriesRaw) (s rows specs : List ℕ) where
-  -- an entry of a found row
-  pub passed-found : keepsRaw (length s) w ≡ true → {f : Found} {p : ℕ} → directAt most n s rows specs (w .position) ≡ gives (some f) p
-      → moves w (raised (f .children) (w .depth)) (passedTo f (endOf (readAttributes most s (w .start) (w .encoding) (w .endian) specs f p))) ≡ rawPassed most n w s rows specs
-  unfolding rawPassed passedAfter
-  passed-found h {f} {p} a =
-      let z = rw a at (direct-in most n s rows specs (w .position)) in
-      rw (h, a, read-kept most s (w .start) (w .encoding) (w .endian) specs f p (z .1) (raw-kept (length s) w h .short) (direct-keeps most n s rows specs (w .position) a))
+module _ (most : ℕ) (w : EntriesRaw) (s rows specs : List ℕ) (h : keepsRaw (length s) w ≡ true) where
+  pub told-refused : {n : ℕ} → abbreviationAt most s rows specs (w .position) ≡ refused n → _≡_ {A = Moved (Option Passed)} (record { answer = refused n; raw = w }) (told (rawEntry most w s rows specs))
+  unfolding rawEntry entryAt
+  told-refused e = rw (h, e)
 
-  -- where the first n rows hold the codes 1, 2, 3, .., it is what reading the item whole would tell
-  pub passed-is-read : n ≤ leading rows → rawPassed most n w s rows specs ≡ told (rawEntry most w s rows specs)
-  unfolding rawPassed passedAfter rawEntry entryAt entryAfter
-  passed-is-read h = rw (direct-at most n s rows specs (w .position) h) (by (keepsRaw (length s) w))
+  pub told-null : {p : ℕ} → abbreviationAt most s rows specs (w .position) ≡ gives none p
+      → _≡_ {A = Moved (Option Passed)} (record { answer = got none; raw = movedTo w p (w .depth -ℤ pos 1) }) (told (rawEntry most w s rows specs))
+  unfolding rawEntry entryAt entryAfter
+  told-null e = rw (h, e)
+
+  pub told-found : {f : Found} {p : ℕ} → abbreviationAt most s rows specs (w .position) ≡ gives (some f) p
+      → moves w (raised (f .children) (w .depth)) (passedTo f (endOf (readAttributes most s (w .start) (w .encoding) (w .endian) specs f p))) ≡ told (rawEntry most w s rows specs)
+  unfolding rawEntry entryAt entryAfter
+  told-found {f} {p} a =
+      rw (h, a, read-kept most s (w .start) (w .encoding) (w .endian) specs f p (rw a at (abbreviation-in most s rows specs (w .position)) .1) (raw-kept (length s) w h .short) keeps)
+      (by (attributesAt s (w .start) (w .encoding) (w .endian) (declarationOf specs f .specifications) p))
     where
-      code : Answer (Read (Option Found))
-      code = abbreviationAt most s rows specs (w .position)
+      keeps : keepsSizes most specs f ≡ true
+      keeps = found-keeps most s rows specs (w .position) a
 
-      on : Answer (Read (Option Found)) → Answer (Read Entry)
-      on r = andThen r (entryAfter most (sourceOf w) s specs (w .position) (w .depth))
-
-      by-values : (f : Found) (d : ℤ) → 0 < f .tag → (r : Answer (Read (List Attribute)))
-          → moves w d (passedTo f (endOf r)) ≡ told (takenFrom most w d (andThen r (λ v. gives (entryOf most (w .start + w .position) (w .depth) f (v .value)) (v .next))))
-      by-values f d t (got v) = rw (ne-eqb (f .tag) 0 (λ y. omega (arith, y)))
-      by-values f d t (refused k) = refl
-
-      by-found : (p : ℕ) (o : Option Found) → code ≡ gives o p
-          → moves w (depthAfter (gives o p) (w .depth)) (passedAfter w s specs (record { value = o; next = p })) ≡ told (takenFrom most w (depthAfter (gives o p) (w .depth)) (on (gives o p)))
-      by-found p none e = refl
-      by-found p (some f) e =
-          by-values f (raised (f .children) (w .depth)) (tagged most specs f (found-keeps most s rows specs (w .position) e))
-          (attributesAt s (w .start) (w .encoding) (w .endian) (declarationOf specs f .specifications) p)
-
-      by-code : (r : Answer (Read (Option Found))) → code ≡ r
-          → moves w (depthAfter r (w .depth)) (andThen r (passedAfter w s specs)) ≡ told (takenFrom most w (depthAfter r (w .depth)) (on r))
-      by-code (got r) e = by-found (r .next) (r .value) e
-      by-code (refused k) e = refl
-
-      by : (b : Bool) → moves w (depthAfter code (w .depth)) (judged b (andThen code (passedAfter w s specs))) ≡ told (takenFrom most w (depthAfter code (w .depth)) (judged b (on code)))
-      by true = by-code code refl
-      by false = refl
+      by : (r : Answer (Read (List Attribute)))
+          → moves w (raised (f .children) (w .depth)) (passedTo f (endOf r))
+          ≡ told (takenFrom most w (raised (f .children) (w .depth)) (andThen r (λ v. gives (entryOf most (w .start + w .position) (w .depth) f (v .value)) (v .next))))
+      by (got v) = rw (ne-eqb (f .tag) 0 (λ y. omega (arith, y, tagged most specs f keeps)))
+      by (refused k) = refl
 
 -- a test of a bit
 pub bit-if : (b c : Bool) → cond (eqb (cond b 1 0) 1) c false ≡ cond b c false

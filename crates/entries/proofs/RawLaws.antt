@@ -13,7 +13,7 @@ use Rattle.reader.specs.Answer.{Answer, got, refused, andThen, Read, gives, Hol
 use Rattle.reader.specs.Leb128.{ulebAt}
 use Rattle.reader.proofs.Accepted.{Ends, uleb-ends}
 use Rattle.reader.proofs.Answers.{holds-then, holds-map, cond-by}
-use Rattle.abbrev.specs.Lookup.{Found, leading, rowAt, specsKept, keepsSizes, judgedRow, rowFound, lookup, directLookup, declarationOf}
+use Rattle.abbrev.specs.Lookup.{Found, specsKept, keepsSizes, lookup, declarationOf}
 use Rattle.attribute.specs.Attributes.{keepsPlace, readAttributes, Stored, stored}
 use Rattle.attribute.proofs.FormLaws.{both}
 use Rattle.attribute.proofs.ListLaws.{read-kept}
@@ -24,9 +24,8 @@ use Rattle.abbrev.specs.Table.{Specification}
 use Rattle.reader.specs.declared.common.Encoding.{Encoding}
 use Rattle.reader.specs.declared.endianity.RunTimeEndian.{RunTimeEndian}
 use Rattle.attribute.specs.Value.{Attribute}
-use Rattle.abbrev.proofs.Lookups.{Keeps, lookup-keeps, direct-lookup}
+use Rattle.abbrev.proofs.Lookups.{Keeps, lookup-keeps}
 use Rattle.entries.specs.Entry.{Entry, entryOf}
-use Rattle.entries.specs.Pass.{directAt}
 use Rattle.entries.specs.Steps.{KeptRaw, Onward, tookEntry}
 use Rattle.entries.specs.Raw.{keepsRaw, Moved, Taken, taken, refusedEntry, rawEntry, Listed}
 use Rattle.entries.specs.Read.{known, codeBy, abbreviationAt, raised, entryAfter, entryAt}
@@ -58,22 +57,6 @@ code-in find s at =
 pub abbreviation-in : (most : ℕ) (s rows specs : List ℕ) (at : ℕ) → Holds (λ v. (at < v .next) × (v .next ≤ length s)) (abbreviationAt most s rows specs at)
 unfolding abbreviationAt
 abbreviation-in most s rows specs at = code-in (lookup most rows specs) s at
-
-pub direct-in : (most n : ℕ) (s rows specs : List ℕ) (at : ℕ) → Holds (λ v. (at < v .next) × (v .next ≤ length s)) (directAt most n s rows specs at)
-unfolding directAt
-direct-in most n s rows specs at = code-in (directLookup most n rows specs) s at
-
--- where the first n rows hold the codes 1, 2, 3, .., their own rows are the lowest
-pub direct-at : (most n : ℕ) (s rows specs : List ℕ) (at : ℕ) → n ≤ leading rows → directAt most n s rows specs at ≡ abbreviationAt most s rows specs at
-unfolding directAt abbreviationAt
-direct-at most n s rows specs at h = go (ulebAt s at 64)
-  where
-    after : (ℕ → Answer (Option Found)) → Read ℕ → Answer (Read (Option Found))
-    after find r = cond (eqb (r .value) 0) (gives none (r .next)) (known (find (r .value)) (r .next))
-
-    go : (u : Answer (Read ℕ)) → andThen u (after (directLookup most n rows specs)) ≡ andThen u (after (lookup most rows specs))
-    go (got r) = rw (direct-lookup most n rows specs (r .value) h)
-    go (refused k) = refl
 
 -- so a depth can rise and fall once more
 pub near-enough : (count : ℕ) (w : EntriesRaw) {p : ℕ} → KeptRaw count w → w .position < p → p ≤ count → natAbs (w .depth) < 2 ^ 63 - 1
@@ -112,21 +95,6 @@ code-keeps most find s specs at k = go (ulebAt s at 64)
 pub found-keeps : (most : ℕ) (s rows specs : List ℕ) (at : ℕ) {f : Found} {p : ℕ} → abbreviationAt most s rows specs at ≡ gives (some f) p → keepsSizes most specs f ≡ true
 unfolding abbreviationAt
 found-keeps most s rows specs at e = rw e at (code-keeps most (lookup most rows specs) s specs at (lookup-keeps most rows specs))
-
--- the same of codes looked up in their own rows
-direct-lookup-keeps : (most n : ℕ) (rows specs : List ℕ) (code : ℕ) → Holds (Keeps most specs) (directLookup most n rows specs code)
-unfolding directLookup rowFound judgedRow
-direct-lookup-keeps most n rows specs code =
-    cond-by (Holds (Keeps most specs)) (ltb 0 code && leb code n) _ (lookup most rows specs code)
-    (λ _.
-    cond-by (Holds (Keeps most specs)) (ltb (code - 1) (length rows / 5)) _ (got none)
-    (λ _. cond-by (Holds (Keeps most specs)) (keepsSizes most specs (rowAt rows (code - 1))) _ (refused 1) (λ h. h) (λ _. tt))
-    (λ _. tt))
-    (λ _. lookup-keeps most rows specs code)
-
-pub direct-keeps : (most n : ℕ) (s rows specs : List ℕ) (at : ℕ) {f : Found} {p : ℕ} → directAt most n s rows specs at ≡ gives (some f) p → keepsSizes most specs f ≡ true
-unfolding directAt
-direct-keeps most n s rows specs at e = rw e at (code-keeps most (directLookup most n rows specs) s specs at (direct-lookup-keeps most n rows specs))
 
 -- from a state that keeps the sizes to a place further on
 pub goes-on : (count : ℕ) (w : EntriesRaw) {p : ℕ} → KeptRaw count w → w .position < p → p ≤ count → Onward w p

@@ -4,7 +4,7 @@ use mathlib.Core.List.{List, [], _∷_}
 use mathlib.Core.Option.{Option, none, some}
 use Prim.Native.Nat.{ℕ, zero, suc, _-_}
 use lib.Dec.{leb}
-use lib.IntN.{ℤ, pos}
+use lib.IntN.{ℤ}
 use lib.ListN.{length}
 use Rattle.reader.specs.Answer.{Answer, got, refused, andThen, ifSome, Read}
 use Rattle.reader.specs.declared.endianity.RunTimeEndian.{RunTimeEndian}
@@ -12,7 +12,9 @@ use Rattle.unit.specs.Header.{sizeOfHeader}
 use Rattle.unit.specs.Range.{entriesBuf}
 use Rattle.unit.specs.declared.header.UnitHeader.{UnitHeader}
 use Rattle.entries.specs.Entry.{Entry}
+use Rattle.entries.specs.Raw.{movedTo, opened, sourceOf}
 use Rattle.entries.specs.Read.{Source, entryAt, afterEntry}
+use Rattle.entries.specs.declared.raw.EntriesRaw.{EntriesRaw}
 
 -- an item: an entry or a null, and the place after it
 abbrev pub Item : Type 0
@@ -72,8 +74,24 @@ module _ (most : ℕ) (src : Source) (s rows specs : List ℕ) where
   unfoldable pub itemsFrom : (Entry → Bool) → ℕ → ℤ → Answer (List Item)
   itemsFrom last at d = allOf (readFrom last at d)
 
--- 01, "Walks": the flat reading of a unit reads entries raw from the header's size until no byte is left
-unfoldable pub flatReading : ℕ → UnitHeader → List ℕ → List ℕ → List ℕ → RunTimeEndian → Answer (List Item)
-flatReading most h u rows specs e =
+-- no item is the last: reading goes on until no byte is left
+abbrev pub never : Entry → Bool
+never e = false
+
+-- the items that a raw reader reads from a state on
+abbrev pub readingFrom : ℕ → EntriesRaw → (s rows specs : List ℕ) → Reading
+readingFrom most w s rows specs = readFrom most (sourceOf w) s rows specs never (w .position) (w .depth)
+
+-- the state behind the first n of some items
+abbrev pub afterItems : EntriesRaw → List Item → ℕ → EntriesRaw
+afterItems w l n = movedTo w (placeAt (w .position) l n) (depthAt (w .depth) l n)
+
+-- 01, "Walks": the flat reading of a unit reads entries raw from the header's size until no byte is left; questions 19 and 1
+unfoldable pub unitReading : ℕ → UnitHeader → (u rows specs : List ℕ) → RunTimeEndian → Answer Reading
+unitReading most h u rows specs e =
     andThen (entriesBuf h u)
-    (λ s. itemsFrom most (record { start = sizeOfHeader h; encoding = h .encoding; endian = e }) s rows specs (λ (x : Entry). false) 0 (pos 0))
+    (λ s. andThen (opened (length s) (sizeOfHeader h) (h .encoding) e) (λ w. got (readingFrom most w s rows specs)))
+
+-- all its items, or the refusal that ended it
+abbrev pub flatReading : ℕ → UnitHeader → (u rows specs : List ℕ) → RunTimeEndian → Answer (List Item)
+flatReading most h u rows specs e = andThen (unitReading most h u rows specs e) allOf

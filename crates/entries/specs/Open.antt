@@ -13,7 +13,7 @@ use Rattle.unit.specs.Range.{entriesBuf, rangeFrom}
 use Rattle.unit.specs.declared.header.UnitHeader.{UnitHeader}
 use Rattle.entries.specs.Cursor.{Cursor, newCursor, openedCursor, noCursor}
 use Rattle.entries.specs.Entry.{Entry, nullEntry}
-use Rattle.entries.specs.Raw.{Taken, opened, rawEntry}
+use Rattle.entries.specs.Raw.{Taken, opened, startOf, unitSource, rawEntry}
 use Rattle.entries.specs.declared.raw.EntriesRaw.{EntriesRaw}
 
 -- 01, question 20: no null
@@ -57,11 +57,7 @@ pub record OwnUnit : Type 0 where
   pub cursor : Cursor
 
 abbrev pub ownUnit : ℕ → UnitHeader → RunTimeEndian → OwnUnit
-ownUnit most h e =
-    record {
-      header = h;
-      cursor = newCursor most (record { start = sizeOfHeader h; position = 0; depth = pos 0; encoding = h .encoding; endian = e });
-    }
+ownUnit most h e = record { header = h; cursor = newCursor most (startOf (unitSource h e)) }
 
 pub record UnitAt : Type 0 where
   pub answer : Answer UnitHeader

@@ -1,20 +1,18 @@
--- Items that are only passed.
-use mathlib.Core.Bool.{Bool, true, false}
-use mathlib.Core.List.{List}
+-- Items that are only passed: what is told of them, and their words.
+use mathlib.Core.Bool.{Bool, true, false, cond}
+use mathlib.Core.List.{List, [], _∷_, _++_}
 use mathlib.Core.Option.{Option, none, some}
-use Prim.Native.Nat.{ℕ}
-use lib.ListN.{length}
-use Rattle.reader.specs.Answer.{Answer, got, refused, andThen, ifSome, Read, gives, endOf}
-use Rattle.abbrev.specs.Lookup.{Found, directLookup, declarationOf}
-use Rattle.attribute.specs.Read.{attributesAt}
+use mathlib.Core.Path.{_≡_}
+use Prim.Native.Nat.{ℕ, _*_}
+use lib.Dec.{ltb}
+use lib.ListN.{length, take, drop}
+use Rattle.reader.specs.Answer.{Answer, got, refused, andThen, ifSome, Read, gives}
+use Rattle.reader.specs.Twos.{word}
+use Rattle.abbrev.specs.Lookup.{Found}
 use Rattle.entries.specs.Entry.{Entry}
-use Rattle.entries.specs.Raw.{keepsRaw, Moved, moves, judged, Taken}
-use Rattle.entries.specs.Read.{codeBy, depthAfter}
+use Rattle.entries.specs.Flat.{Item, Reading, readingFrom, afterItems}
+use Rattle.entries.specs.Raw.{keepsRaw, Moved, Taken}
 use Rattle.entries.specs.declared.raw.EntriesRaw.{EntriesRaw}
-
--- `abbreviationAt` with codes up to n looked up in their own rows, which is right where the first n rows hold 1, 2, 3, .. (`direct-at`)
-unfoldable pub directAt : ℕ → ℕ → List ℕ → List ℕ → List ℕ → ℕ → Answer (Read (Option Found))
-directAt most n s rows specs at = codeBy (directLookup most n rows specs) s at
 
 -- what is told of an entry
 pub record Passed : Type 0 where
@@ -25,19 +23,7 @@ pub record Passed : Type 0 where
 abbrev pub passedTo : Found → Answer ℕ → Answer (Read (Option Passed))
 passedTo f r = andThen r (λ p. gives (some (record { tag = f .tag; count = f .count })) p)
 
--- what follows a code: a null, or an entry, of whose values only the end counts
-unfoldable pub passedAfter : EntriesRaw → List ℕ → List ℕ → Read (Option Found) → Answer (Read (Option Passed))
-passedAfter w s specs r =
-    ifSome (r .value) (gives none (r .next))
-    (λ f. passedTo f (endOf (attributesAt s (w .start) (w .encoding) (w .endian) (declarationOf specs f .specifications) (r .next))))
-
--- past the item that stands next: what is told of an entry, or none for a null; 01, question 1
-unfoldable pub rawPassed : (most n : ℕ) → EntriesRaw → (s rows specs : List ℕ) → Moved (Option Passed)
-rawPassed most n w s rows specs =
-    moves w (depthAfter (directAt most n s rows specs (w .position)) (w .depth))
-    (judged (keepsRaw (length s) w) (andThen (directAt most n s rows specs (w .position)) (passedAfter w s specs)))
-
--- the same of an item that was read whole (`passed-is-read`)
+-- of an item that read_entry reads: what is told of an entry, or none for a null
 abbrev pub toldOf : Answer Bool → Entry → Answer (Option Passed)
 toldOf (got true) e = got (some (record { tag = e .tag; count = e .count }))
 toldOf (got false) e = got none
@@ -45,3 +31,39 @@ toldOf (refused n) e = refused n
 
 abbrev pub told : Taken → Moved (Option Passed)
 told x = record { answer = toldOf (x .answer) (x .entry); raw = x .raw }
+
+-- ---- one after another
+
+-- offset, depth in two's complement, tag and count of values; a null has 0 for the last two
+abbrev pub itemWords : Item → List ℕ
+itemWords i = i .value .offset ∷ word 64 (i .value .depth) ∷ i .value .tag ∷ i .value .count ∷ []
+
+abbrev pub itemsWords : List Item → List ℕ
+itemsWords [] = []
+itemsWords (i ∷ l) = itemWords i ++ itemsWords l
+
+-- items, what is said, and the state behind them
+pub record PassedItems : Type 0 where
+  pub items : List Item
+  pub answer : Answer (Unit {0})
+  pub raw : EntriesRaw
+
+-- the first m items of a reading; with room for one more, the refusal that ended it
+abbrev pub firstOf : ℕ → EntriesRaw → Reading → PassedItems
+firstOf m w r =
+    record {
+      items = take m (r .items);
+      answer = cond (ltb (length (r .items)) m) (ifSome (r .stop) (got tt) (λ x. refused (x .number))) (got tt);
+      raw = afterItems w (r .items) m;
+    }
+
+-- at most m items from a state on; 01, question 1
+unfoldable pub passedItems : (most m : ℕ) → EntriesRaw → (s rows specs : List ℕ) → PassedItems
+passedItems most m w s rows specs =
+    cond (keepsRaw (length s) w)
+    (firstOf m w (readingFrom most w s rows specs))
+    (record { items = []; answer = refused 1; raw = w })
+
+-- the items' words in lent words, which keep what they hold behind them
+abbrev pub withWords : List Item → List ℕ → List ℕ
+withWords l before = itemsWords l ++ drop (length l * 4) before

@@ -13,6 +13,8 @@ use Rattle.abbrev.specs.Lookup.{Found}
 use Rattle.abbrev.specs.Table.{Specification}
 use Rattle.attribute.specs.Attributes.{readAttribute, readAttributes, skipAttributes, Stored, stored}
 use Rattle.attribute.specs.Value.{Attribute}
+use Rattle.unit.specs.Header.{sizeOfHeader}
+use Rattle.unit.specs.declared.header.UnitHeader.{UnitHeader}
 use Rattle.entries.specs.Entry.{Entry, nullEntry, isNull}
 use Rattle.entries.specs.Read.{Source, abbreviationAt, depthAfter, entryAt, keepsState}
 use Rattle.entries.specs.declared.raw.EntriesRaw.{EntriesRaw}
@@ -26,11 +28,19 @@ abbrev pub movedTo : EntriesRaw → ℕ → ℤ → EntriesRaw
 movedTo w at d =
     record { start = w .start; position = at; depth = d; encoding = w .encoding; endian = w .endian }
 
+-- the state before the first byte
+abbrev pub startOf : Source → EntriesRaw
+startOf src = record { start = src .start; position = 0; depth = pos 0; encoding = src .encoding; endian = src .endian }
+
+-- a unit's entries start behind its header
+abbrev pub unitSource : UnitHeader → RunTimeEndian → Source
+unitSource h e = record { start = sizeOfHeader h; encoding = h .encoding; endian = e }
+
 -- a reader over so many bytes that start at an offset; 01, question 1
 unfoldable pub opened : ℕ → ℕ → Encoding → RunTimeEndian → Answer EntriesRaw
 opened count start c e =
     cond (ltb (start + count) (2 ^ 63))
-    (got (record { start = start; position = 0; depth = pos 0; encoding = c; endian = e }))
+    (got (startOf (record { start = start; encoding = c; endian = e })))
     (refused 1)
 
 -- no byte is left

@@ -1,7 +1,10 @@
 -- The code's answers and structs in the definitions' terms.
 use mathlib.Core.Bool.{Bool, true, false}
-use mathlib.Core.List.{map}
+use mathlib.Core.List.{List, map}
 use mathlib.Core.Option.{Option, none, some}
+use mathlib.Core.Path.{_≡_}
+use Prim.Native.Nat.{ℕ}
+use lib.ListN.{length}
 use Rattle.reader.specs.Answer.{Answer, got, refused, Read, gives}
 use Rattle.reader.specs.Errors.{numberOf}
 use Rattle.abbrev.specs.Lookup.{Found}
@@ -12,7 +15,7 @@ use Rattle.attribute.specs.declared.value.Value.{Value}
 use Rattle.entries.specs.Entry.{Entry}
 use Rattle.entries.specs.Cursor.{Cursor, OpenedCursor, Current, Called}
 use Rattle.entries.specs.Open.{EntryAt, UnitAt}
-use Rattle.entries.specs.Pass.{Passed}
+use Rattle.entries.specs.Pass.{Passed, PassedItems, withWords}
 use Rattle.entries.specs.Raw.{Moved, Taken, Listed}
 use Rattle.entries.specs.declared.cursor.Current as declared-current
 use Rattle.entries.specs.declared.cursor.CursorNext.{CursorNext}
@@ -30,6 +33,7 @@ use Rattle.entries.specs.declared.raw.Code.the-variants as code
 use Rattle.entries.specs.declared.raw.Coded.{Coded}
 use Rattle.entries.specs.declared.raw.Coded.the-variants as coded
 use Rattle.entries.specs.declared.raw.EntriesRaw.{EntriesRaw}
+use Rattle.entries.specs.declared.flat.PassedEntries.{PassedEntries}
 use Rattle.entries.specs.declared.open.EntryAt as declared-entry-at
 use Rattle.entries.specs.declared.open.OpenedUnit.{OpenedUnit}
 use Rattle.entries.specs.declared.open.UnitAt as declared-unit-at
@@ -114,16 +118,23 @@ viewPassedEntry (passed.Refused e) = refused (numberOf e)
 abbrev pub viewRawPassed : RawPassed → Moved (Option Passed)
 viewRawPassed r = record { answer = viewPassedEntry (r .answer); raw = r .raw }
 
+abbrev pub viewOutcome : Outcome → Answer (Unit {0})
+viewOutcome outcome.Done = got tt
+viewOutcome (outcome.Refused e) = refused (numberOf e)
+
+-- items passed, and their words in lent words
+pub record PassedAs (x : PassedItems) (before after : List ℕ) (r : PassedEntries) : Type 0 where
+  pub answer-is : viewOutcome (r .answer) ≡ x .answer
+  pub count-is : r .count ≡ length (x .items)
+  pub raw-is : r .raw ≡ x .raw
+  pub words-are : after ≡ withWords (x .items) before
+
 abbrev pub viewReadAttribute : ReadAttribute → Answer Attribute
 viewReadAttribute (read-attribute.Got a) = got (viewAttribute a)
 viewReadAttribute (read-attribute.Refused e) = refused (numberOf e)
 
 abbrev pub viewRawAttribute : RawAttribute → Moved Attribute
 viewRawAttribute r = record { answer = viewReadAttribute (r .answer); raw = r .raw }
-
-abbrev pub viewOutcome : Outcome → Answer (Unit {0})
-viewOutcome outcome.Done = got tt
-viewOutcome (outcome.Refused e) = refused (numberOf e)
 
 abbrev pub viewRawAttributes : RawAttributes → Listed
 viewRawAttributes r = record { answer = viewOutcome (r .answer); attrs = map viewAttribute (r .attrs); raw = r .raw }

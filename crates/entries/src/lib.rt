@@ -5,6 +5,7 @@
 mod bounds; // the bounds of a jump
 pub mod cursor; // EntriesCursor
 pub mod entry; // Entry
+pub mod flat; // items passed one after another
 pub mod open; // readers opened by a header
 mod pass; // items passed without building entries
 pub mod raw; // EntriesRaw

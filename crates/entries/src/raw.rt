@@ -3,21 +3,21 @@
 ghost use mathlib.Core.Bool.{cond};
 ghost use mathlib.Core.List.{map};
 ghost use mathlib.Core.Path.{_≡_};
-ghost use Prim.Native.Nat.{_+_, _-_, _^_, _<_};
+ghost use Prim.Native.Nat.{_+_, _-_, _^_, _≤_, _<_};
 ghost use lib.Dec.{leb};
 ghost use lib.IntN.{pos, _+ℤ_, _-ℤ_, natAbs};
 ghost use lib.ListN.{length};
 ghost use Rattle.reader.specs.Answer.{gives, endOf};
 ghost use Rattle.reader.specs.Errors.{numberOf};
 ghost use Rattle.reader.specs.Views.{viewPlace, viewWord};
-ghost use Rattle.abbrev.specs.Lookup.{directLookup};
+ghost use Rattle.abbrev.specs.Lookup.{leading, lookup};
 ghost use Rattle.abbrev.specs.Table.{entryLimit};
-ghost use Rattle.abbrev.specs.Views.{foundOf, specificationOf};
+ghost use Rattle.abbrev.specs.Views.{foundOf, specificationOf, viewLookup};
 ghost use Rattle.attribute.specs.Attributes.{readAttributes};
 ghost use Rattle.attribute.specs.Views.{viewAttribute};
 ghost use Rattle.entries.specs.Cursor.{depthPast};
 ghost use Rattle.entries.specs.Entry.{nullEntry};
-ghost use Rattle.entries.specs.Pass.{directAt, passedTo, rawPassed};
+ghost use Rattle.entries.specs.Pass.{passedTo, told};
 ghost use Rattle.entries.specs.Raw.{keepsRaw, movedTo, moves, opened, emptyRaw, offsetOf, rawAbbreviation, refusedEntry, taken, rawEntry, rawAttribute, rawAttributes, rawSkip};
 ghost use Rattle.entries.specs.Read.{abbreviationAt, codeFor, raised};
 ghost use Rattle.entries.specs.Steps.{KeptRaw, Onward, tookEntry};
@@ -27,7 +27,8 @@ use super::entry::null_at;
 use abbrev::lookup::Abbreviation;
 use abbrev::lookup::AttributeSpecification;
 use abbrev::lookup::Lookup;
-use abbrev::lookup::get_direct;
+use abbrev::lookup::get;
+use abbrev::lookup::row;
 use attribute::parse::Parsed;
 use attribute::parse::keeps_place;
 use attribute::parse::parse_attribute;
@@ -141,17 +142,31 @@ pub(crate) fn keeps_depth(depth: i64, position: usize) -> bool
     ((-1 - depth) as usize) < position
 }
 
-// What a code stands for. Codes up to `n` are looked up in their own rows. It takes the code and not the
-// bytes: a slice that is handed on once more is waited for.
+// A code that is not 0, where the first `n` rows hold the codes 1, 2, 3, ..
+fn row_for(rows: &[u64], specs: &[u64], n: usize, code: u64) -> Lookup
+    requires { ⌜ n ≤ leading (now rows) ⌝ }
+    requires { ⌜ 0 < code ⌝ }
+    ensures { λ r. ⌜ viewLookup r ≡ lookup (entryLimit .most) (now (rows .entry)) (now (specs .entry)) code ⌝ }
+{
+    if (n as u64) < code {
+        return get(rows, specs, code);
+    }
+    let i = (code - 1) as usize;
+    row(rows, specs, i)
+}
+
+// What a code stands for. It takes the code and not the bytes: a slice that is handed on once more is
+// waited for.
 fn code_for(code: Word, rows: &[u64], specs: &[u64], n: usize) -> Code
-    ensures { λ r. ⌜ viewCode r ≡ codeFor (directLookup (entryLimit .most) n (now (rows .entry)) (now (specs .entry))) (viewWord code) ⌝ }
+    requires { ⌜ n ≤ leading (now rows) ⌝ }
+    ensures { λ r. ⌜ viewCode r ≡ codeFor (lookup (entryLimit .most) (now (rows .entry)) (now (specs .entry))) (viewWord code) ⌝ }
 {
     match code {
         Word::Got(number, next) => {
             if number == 0 {
                 return Code::Null(next);
             }
-            match get_direct(rows, specs, n, number) {
+            match row_for(rows, specs, n, number) {
                 Lookup::Found(abbreviation) => Code::Found(abbreviation, next),
                 Lookup::Absent => Code::Refused(Error::InvalidAbbreviationCode),
                 Lookup::Refused(e) => Code::Refused(e),
@@ -161,9 +176,10 @@ fn code_for(code: Word, rows: &[u64], specs: &[u64], n: usize) -> Code
     }
 }
 
-// What stands at a place that has a code.
+// What stands at a place that has a code, where the first `n` rows hold the codes 1, 2, 3, ..
 pub(crate) fn code_direct(bytes: &[u8], rows: &[u64], specs: &[u64], n: usize, at: usize) -> Code
-    ensures { λ r. ⌜ viewCode r ≡ directAt (entryLimit .most) n (now (bytes .entry)) (now (rows .entry)) (now (specs .entry)) at ⌝ }
+    requires { ⌜ n ≤ leading (now rows) ⌝ }
+    ensures { λ r. ⌜ viewCode r ≡ abbreviationAt (entryLimit .most) (now (bytes .entry)) (now (rows .entry)) (now (specs .entry)) at ⌝ }
 {
     code_for(read_uleb128(bytes, at), rows, specs, n)
 }
@@ -326,6 +342,35 @@ fn pass_values(
             }
         }
         Place::Refused(e) => RawPassed {
+            answer: PassedEntry::Refused(e),
+            raw,
+        },
+    }
+}
+
+// Past the item at the state's place, where the first `n` rows hold the codes 1, 2, 3, ..
+pub(crate) fn pass_one(
+    raw: EntriesRaw,
+    bytes: &[u8],
+    rows: &[u64],
+    specs: &[u64],
+    n: usize,
+) -> RawPassed
+    requires { ⌜ KeptRaw (length (now bytes)) raw ⌝ }
+    requires { ⌜ n ≤ leading (now rows) ⌝ }
+    ensures { λ r. ⌜ viewRawPassed r ≡ told (rawEntry (entryLimit .most) raw (now (bytes .entry)) (now (rows .entry)) (now (specs .entry))) ⌝ }
+{
+    match code_direct(bytes, rows, specs, n, raw.position) {
+        Code::Found(abbreviation, next) => pass_values(raw, bytes, specs, abbreviation, next),
+        Code::Null(next) => {
+            let below = depth_below(raw.depth);
+            let after = moved(raw, next, below);
+            RawPassed {
+                answer: PassedEntry::Null,
+                raw: after,
+            }
+        }
+        Code::Refused(e) => RawPassed {
             answer: PassedEntry::Refused(e),
             raw,
         },
@@ -563,31 +608,12 @@ impl EntriesRaw {
         refuse(self, Error::SizeLimit)
     }
 
-    // Past what `read_entry` would read, with nothing stored. Codes up to `n` are looked up in their
-    // own rows; with `n` up to `leading(rows)` of `abbrev` the answer is that of `read_entry`.
-    pub fn pass_entry(self, bytes: &[u8], rows: &[u64], specs: &[u64], n: usize) -> RawPassed
-        ensures { λ r. ⌜ viewRawPassed r ≡ rawPassed (entryLimit .most) n self (now (bytes .entry)) (now (rows .entry)) (now (specs .entry)) ⌝ }
+    // Past what `read_entry` would read, with nothing stored.
+    pub fn pass_entry(self, bytes: &[u8], rows: &[u64], specs: &[u64]) -> RawPassed
+        ensures { λ r. ⌜ viewRawPassed r ≡ told (rawEntry (entryLimit .most) self (now (bytes .entry)) (now (rows .entry)) (now (specs .entry))) ⌝ }
     {
         if keeps_raw(bytes.len(), self) {
-            match code_direct(bytes, rows, specs, n, self.position) {
-                Code::Found(abbreviation, next) => {
-                    return pass_values(self, bytes, specs, abbreviation, next);
-                }
-                Code::Null(next) => {
-                    let below = depth_below(self.depth);
-                    let raw = moved(self, next, below);
-                    return RawPassed {
-                        answer: PassedEntry::Null,
-                        raw,
-                    };
-                }
-                Code::Refused(e) => {
-                    return RawPassed {
-                        answer: PassedEntry::Refused(e),
-                        raw: self,
-                    };
-                }
-            }
+            return pass_one(self, bytes, rows, specs, 0);
         }
         RawPassed {
             answer: PassedEntry::Refused(Error::SizeLimit),

@@ -1,7 +1,7 @@
 use Rattle.abbrev.proofs.Lookups.{kept}
 use Rattle.abbrev.specs.Views.{foundOf}
 use Rattle.entries.proofs.PassLaws.{passed-refused, passed-null, passed-plain, bit-if}
-use Rattle.entries.proofs.RawLaws.{direct-in, direct-at, direct-keeps, goes-on, near-enough}
+use Rattle.entries.proofs.RawLaws.{abbreviation-in, found-keeps, goes-on, near-enough}
 use Rattle.entries.specs.Raw.{movedTo}
 use Rattle.entries.specs.Views.{viewCode}
 use borrow.Author.Needs.{needs}
@@ -22,7 +22,7 @@ pass-item-spec =
     -- may-jump-requires
     (λ c κs.
     let a = c .before .before .before .before .before .before .before .args in
-    kept 64 (a .specs .now) (foundOf (c .before .abbreviation .given .0 .0)) (direct-keeps 64 (a .n) (a .bytes .now) (a .rows .now) (a .specs .now) (a .raw .position) (sym (c .before .before .before .code-direct .ensures) ∙ ap viewCode (c .before .abbreviation .given .1))) .inside)
+    kept 64 (a .specs .now) (foundOf (c .before .abbreviation .given .0 .0)) (found-keeps 64 (a .bytes .now) (a .rows .now) (a .specs .now) (a .raw .position) (sym (c .before .before .before .code-direct .ensures) ∙ ap viewCode (c .before .abbreviation .given .1))) .inside)
     -- pass-read-requires
     (λ c κs. c .before .before .before .before .before .before .before .before .before .pre .0)
     -- returns
@@ -30,13 +30,13 @@ pass-item-spec =
     -- pass-plain-requires
     (λ c κs.
     let a = c .before .before .before .before .before .before .before .before .before .args in
-    let z = rw (← c .before .before .before .before .before .code-direct .ensures, c .before .before .before .abbreviation .given .1) at (direct-in 64 (a .n) (a .bytes .now) (a .rows .now) (a .specs .now) (a .raw .position)) in
+    let z = rw (← c .before .before .before .before .before .code-direct .ensures, c .before .before .before .abbreviation .given .1) at (abbreviation-in 64 (a .bytes .now) (a .rows .now) (a .specs .now) (a .raw .position)) in
     goes-on _ (a .raw) (c .before .before .before .before .before .before .before .before .before .pre .0) (z .0) (z .1))
     (λ c. search needs)
     -- depth-below-requires
     (λ c κs.
     let a = c .before .before .before .before .before .before .before .before .args in
-    let z = rw (← c .before .before .before .before .code-direct .ensures, c .before .before .next .given .1) at (direct-in 64 (a .n) (a .bytes .now) (a .rows .now) (a .specs .now) (a .raw .position)) in
+    let z = rw (← c .before .before .before .before .code-direct .ensures, c .before .before .next .given .1) at (abbreviation-in 64 (a .bytes .now) (a .rows .now) (a .specs .now) (a .raw .position)) in
     let e : toZ w64 (ofZ w64 (a .raw .depth)) ≡ a .raw .depth = search needs in
     rw e (near-enough _ (a .raw) (c .before .before .before .before .before .before .before .before .pre .0) (z .0) (z .1)))
     (λ c κs. search needs)
@@ -44,18 +44,15 @@ pass-item-spec =
     -- returns-2
     (λ c.
     let a = c .before .before .before .before .before .before .before .before .before .before .args in
-    let d = direct-at 64 (a .n) (a .bytes .now) (a .rows .now) (a .specs .now) (a .raw .position) (c .before .before .before .before .before .before .before .before .before .before .pre .1) in
-    c .pass-plain .ensures ∙ passed-plain 64 (a .bytes .now) (a .rows .now) (a .specs .now) (a .raw) (c .before .before .before .before .before .before .before .before .before .before .pre .0) (sym d ∙ sym (c .before .before .before .before .before .before .code-direct .ensures) ∙ ap viewCode (c .before .before .before .before .abbreviation .given .1)) (bit-if (c .before .before .before .before .abbreviation .given .0 .0 .«has_children») _ ∙ sym (c .before .before .may-jump .ensures) ∙ c .before .if1 .left))
+    c .pass-plain .ensures ∙ passed-plain 64 (a .bytes .now) (a .rows .now) (a .specs .now) (a .raw) (c .before .before .before .before .before .before .before .before .before .before .pre .0) (sym (c .before .before .before .before .before .before .code-direct .ensures) ∙ ap viewCode (c .before .before .before .before .abbreviation .given .1)) (bit-if (c .before .before .before .before .abbreviation .given .0 .0 .«has_children») _ ∙ sym (c .before .before .may-jump .ensures) ∙ c .before .if1 .left))
     -- returns-3
     (λ c.
     let a = c .before .before .before .before .before .before .before .before .before .before .args in
-    let d = direct-at 64 (a .n) (a .bytes .now) (a .rows .now) (a .specs .now) (a .raw .position) (c .before .before .before .before .before .before .before .before .before .before .pre .1) in
     let e : toZ w64 (ofZ w64 (a .raw .depth)) ≡ a .raw .depth = search needs in
     let f : toZ w64 (ofZ w64 (c .before .depth-below .result)) ≡ c .before .depth-below .result = toZ-ofZ {w = w64} {z = c .before .depth-below .result} (record { sfits = c .before .depth-below .ok }) in
     ap some (c .moved .ensures ∙ ap (movedTo (a .raw) (c .before .before .before .before .next .given .0 .0)) (f ∙ rw e at (c .before .depth-below .ensures)))
-    ∙ passed-null 64 (a .bytes .now) (a .rows .now) (a .specs .now) (a .raw) (sym d ∙ sym (c .before .before .before .before .before .before .code-direct .ensures) ∙ ap viewCode (c .before .before .before .before .next .given .1)))
+    ∙ passed-null 64 (a .bytes .now) (a .rows .now) (a .specs .now) (a .raw) (sym (c .before .before .before .before .before .before .code-direct .ensures) ∙ ap viewCode (c .before .before .before .before .next .given .1)))
     -- returns-4
     (λ c.
     let a = c .before .before .before .before .before .before .args in
-    let d = direct-at 64 (a .n) (a .bytes .now) (a .rows .now) (a .specs .now) (a .raw .position) (c .before .before .before .before .before .before .pre .1) in
-    passed-refused 64 (a .bytes .now) (a .rows .now) (a .specs .now) (a .raw) (sym d ∙ sym (c .before .before .code-direct .ensures) ∙ ap viewCode (c .enum-told .given .1))))
+    passed-refused 64 (a .bytes .now) (a .rows .now) (a .specs .now) (a .raw) (sym (c .before .before .code-direct .ensures) ∙ ap viewCode (c .enum-told .given .1))))

@@ -1,10 +1,10 @@
-use Rattle.entries.specs.Pass.{directAt}
+use Rattle.entries.specs.Read.{abbreviationAt}
 use borrow.Author.Needs.{needs}
 use Rattle.entries.proofs.raw.code_direct.Statement.{statement}
 use Rattle.entries.proofs.raw.code_direct.Tie as tie
 
 pub code-direct-spec : {M : Type 1} → statement M
-unfolding directAt
+unfolding abbreviationAt
 code-direct-spec =
     tie.close
     (tie.spec
