@@ -6,5 +6,6 @@ pub mod FlatLaws
 pub mod SeekLaws
 pub mod PassLaws
 pub mod RunLaws
+pub mod CallsLaws
 pub mod CursorLaws
 pub mod OpenLaws
