@@ -26,7 +26,7 @@ use Rattle.entries.specs.Entry.{Entry, isNull}
 use Rattle.entries.specs.Flat.{Item, placeAt, depthAt, Stop, Reading, nothing, before, readOn, allOf, readWithin, readFrom, itemsFrom}
 use Rattle.entries.specs.Read.{Source, known, abbreviationAt, depthAfter, afterEntry, entryAfter, entryAt}
 use Rattle.entries.proofs.DepthLaws.{abs-up, abs-down}
-use Rattle.entries.proofs.RawLaws.{abbreviation-in, found-keeps, tagged}
+use Rattle.entries.proofs.RawLaws.{abbreviation-in, found-keeps, tagged, tag-small}
 
 -- an answer with a value is that value
 got-is : {A : Type 0} (r : Answer A) → Holds (λ a. r ≡ got a) r
@@ -46,7 +46,7 @@ nth-next at d (i ∷ l) zero z h = (refl, refl)
 nth-next at d (i ∷ l) (suc n) z h = nth-next (i .next) (afterEntry (i .value)) l n z (omega arith)
 
 module _ (most : ℕ) (src : Source) (s rows specs : List ℕ) where
-  -- an item that is read at a place and a depth: the depth after it is the one after its code, and a null has no children and no values
+  -- an item that is read at a place and a depth: the depth after it is the one after its code, and a null has no children and no values, and a tag has 16 bits
   pub record Stands (at : ℕ) (d : ℤ) (i : Item) : Type 0 where
     pub read : entryAt most src s rows specs at d ≡ got i
     pub offset : i .value .offset ≡ src .start + at
@@ -56,13 +56,14 @@ module _ (most : ℕ) (src : Source) (s rows specs : List ℕ) where
     pub after : depthAfter (abbreviationAt most s rows specs at) d ≡ afterEntry (i .value)
     pub bare : isNull (i .value) ≡ true → i .value .children ≡ false
     pub empty : isNull (i .value) ≡ true → i .value .count ≡ 0
+    pub small : i .value .tag ≤ 65535
 
   module _ (at : ℕ) (d : ℤ) where
     of-code : (o : Option Found) (p : ℕ) → abbreviationAt most s rows specs at ≡ gives o p → Holds (Stands at d) (entryAfter most src s specs at d (record { value = o; next = p }))
     unfolding entryAt entryAfter
     of-code none p e =
         let a : (at < p) × (p ≤ length s) = rw e at (abbreviation-in most s rows specs at) in
-        record { read = rw e; offset = refl; depth = refl; above = a .0; within = a .1; after = rw e; bare = λ _. refl; empty = λ _. refl }
+        record { read = rw e; offset = refl; depth = refl; above = a .0; within = a .1; after = rw e; bare = λ _. refl; empty = λ _. refl; small = omega arith }
     of-code (some f) p e =
         let a : (at < p) × (p ≤ length s) = rw e at (abbreviation-in most s rows specs at) in
         let t = tagged most specs f (found-keeps most s rows specs at e) in
@@ -71,7 +72,7 @@ module _ (most : ℕ) (src : Source) (s rows specs : List ℕ) where
         holds-then (λ v. values ≡ got v) (Stands at d) values _ (got-is values)
         (λ v q.
         let b = (rw q at (attributes-past s (src .start) (src .encoding) (src .endian) xs p (a .1))) .1 in
-        record { read = rw (e, q); offset = refl; depth = refl; above = omega (arith, a .0, b .from); within = b .within; after = rw (e, ne-eqb (f .tag) 0 (λ y. omega (arith, y))); bare = λ z. absurd (omega (arith, eqb-true (f .tag) 0 z)); empty = λ z. absurd (omega (arith, eqb-true (f .tag) 0 z)) })
+        record { read = rw (e, q); offset = refl; depth = refl; above = omega (arith, a .0, b .from); within = b .within; after = rw (e, ne-eqb (f .tag) 0 (λ y. omega (arith, y))); bare = λ z. absurd (omega (arith, eqb-true (f .tag) 0 z)); empty = λ z. absurd (omega (arith, eqb-true (f .tag) 0 z)); small = tag-small most specs f (found-keeps most s rows specs at e) })
 
     pub entry-stands : Holds (Stands at d) (entryAt most src s rows specs at d)
     unfolding entryAt

@@ -154,6 +154,13 @@ tagged most specs f h =
     let b = both (ltb 0 (f .tag) && leb (f .tag) 65535) (leb (f .children) 1) a .0 in
     ltb-true _ _ (both (ltb 0 (f .tag)) (leb (f .tag) 65535) b .0)
 
+-- of 16 bits
+pub tag-small : (most : ℕ) (specs : List ℕ) (f : Found) → keepsSizes most specs f ≡ true → f .tag ≤ 65535
+tag-small most specs f h =
+    let a = both (ltb 0 (f .tag) && leb (f .tag) 65535 && leb (f .children) 1) (specsKept most specs (f .first) (f .count)) h .0 in
+    let b = both (ltb 0 (f .tag) && leb (f .tag) 65535) (leb (f .children) 1) a .0 in
+    leb-true _ _ (both (ltb 0 (f .tag)) (leb (f .tag) 65535) b .1)
+
 pub values-onward : (most : ℕ) (s : List ℕ) (start : ℕ) (c : Encoding) (e : RunTimeEndian) (xs : List Specification) (at : ℕ) (w : EntriesRaw) {p : ℕ} → KeptRaw (length s) w → w .position < at → at ≤ length s → stored most (attributesAt s start c e xs at) .end ≡ got p → Onward w p
 values-onward most s start c e xs at w k h l q =
     stored-onward most s at w (attributesAt s start c e xs at) k h

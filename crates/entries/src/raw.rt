@@ -394,6 +394,13 @@ impl EntriesRaw {
         Opened::Refused(Error::SizeLimit)
     }
 
+    // Whether a state that anybody may have made keeps document 01's sizes over so many bytes.
+    pub fn keeps_sizes(self, count: usize) -> bool
+        ensures { λ r. ⌜ r ≡ keepsRaw count self ⌝ }
+    {
+        keeps_raw(count, self)
+    }
+
     pub fn is_empty(self, bytes: &[u8]) -> bool
         ensures { λ r. ⌜ r ≡ emptyRaw (length (now (bytes .entry))) self ⌝ }
     {

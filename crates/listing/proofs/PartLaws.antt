@@ -1,12 +1,12 @@
 -- Laws of what is written of one unit.
-use mathlib.Core.Bool.{Bool, true, false, cond}
-use mathlib.Core.Path.{_≡_, sym, ap, _∙_}
+use mathlib.Core.Bool.{Bool, true, false, cond, _&&_}
+use mathlib.Core.Path.{_≡_, refl, sym, ap, _∙_, subst}
 use mathlib.Core.List.{List, [], _∷_, _++_}
-use Prim.Native.Nat.{ℕ, _+_, _-_, _*_, _/_, _≤_}
+use Prim.Native.Nat.{ℕ, _+_, _-_, _*_, _/_, _≤_, _<_}
 use native.Mathlib.Omega.{arith}
-use borrow.Author.Tests.{eq-eqb, ne-eqb}
-use lib.Dec.{eqb}
-use lib.IntN.{pos}
+use borrow.Author.Tests.{eq-eqb, ne-eqb, le-leb, lt-leb}
+use lib.Dec.{eqb, leb}
+use lib.IntN.{ℤ, pos}
 use Rattle.reader.specs.Fields.{wordSize, initialLengthSize}
 use Rattle.reader.specs.declared.endianity.RunTimeEndian.the-variants.{Little}
 use Rattle.reader.proofs.FieldLaws.{word-size-most, initial-length-size-most}
@@ -14,6 +14,7 @@ use Rattle.unit.proofs.HeaderLaws.{type-size-most}
 use lib.ListN.{length, take, drop, length-drop}
 use lib.Seq.{length-take-le}
 use Rattle.reader.specs.Answer.{Answer, got, refused, andThen, Holds}
+use Rattle.attribute.proofs.FormLaws.{both}
 use Rattle.abbrev.specs.Rows.{Left}
 use Rattle.abbrev.specs.Table.{Declaration, entryLimit, abbreviationsAt}
 use Rattle.abbrev.proofs.Bounds.{Sound, sound}
@@ -21,21 +22,59 @@ use Rattle.unit.specs.Header.{typeSize, sizeOfHeader, unitEnd}
 use Rattle.unit.specs.Range.{part, Handed, handed, unitBytes, entriesBuf}
 use Rattle.unit.specs.declared.header.UnitHeader.{UnitHeader}
 use Rattle.unit.proofs.RangeLaws.{part-there}
-use Rattle.entries.specs.Read.{Source}
-use Rattle.listing.specs.Listing.{orStop, headLine, itemLines, tableRows, tableSpecs, entriesIn, sourceFor, partLines, Shelf, unitEntries, unitAll}
-use Rattle.listing.specs.Piece.{Part, partOf, add, adds}
+use Rattle.entries.specs.Raw.{keepsRaw, movedTo}
+use Rattle.entries.specs.Steps.{KeptRaw}
+use Rattle.entries.specs.declared.raw.EntriesRaw.{EntriesRaw}
+use Rattle.entries.proofs.RawLaws.{raw-kept}
+use Rattle.listing.specs.Listing.{Placed, placeIn, placeOf, put, orStop, headLine, itemLines, tableRows, tableSpecs, entriesIn, beginning, stateAt, partLines, Shelf, unitEntries, unitAll}
 use Rattle.listing.specs.Text.{Line, unitLine}
-use Rattle.listing.specs.Written.{Held, Added, Written, refusal, Fit}
+use Rattle.listing.specs.Written.{Part, partOf, add, adds, Held, Added, Written, refusal, Fit}
 use Rattle.listing.specs.declared.list.Wrote.{Wrote}
+use Rattle.listing.specs.declared.piece.ListingPlace.{ListingPlace}
 use Rattle.listing.specs.declared.piece.Piece.{Piece}
 use Rattle.listing.proofs.PieceLaws.{adds-full, written-in}
 use Rattle.listing.proofs.UnitLaws.{laid-lines}
 
+-- ---- the state at a place
+
+module _ (h : UnitHeader) (s : List ℕ) (p : ListingPlace) where
+  abbrev at : EntriesRaw
+  at = movedTo (beginning h) (p .offset - sizeOfHeader h) (p .depth)
+
+  -- as the code makes it
+  pub state-made : {n : ℕ} {d : ℤ} → n ≡ sizeOfHeader h → d ≡ p .depth → _≡_ {A = EntriesRaw} (record { start = n; position = p .offset - n; depth = d; encoding = h .encoding; endian = Little }) at
+  state-made {n} {d} e f = ap (λ (k : ℕ). from k d) e ∙ ap (from (sizeOfHeader h)) f
+    where
+      from : ℕ → ℤ → EntriesRaw
+      from k d = record { start = k; position = p .offset - k; depth = d; encoding = h .encoding; endian = Little }
+
+  pub state-before : p .offset < sizeOfHeader h → stateAt h s p ≡ refused 1
+  unfolding stateAt
+  state-before e = rw (lt-leb (sizeOfHeader h) (p .offset) e)
+
+  module _ (e : sizeOfHeader h ≤ p .offset) where
+    pub state-there : {w : EntriesRaw} → w ≡ at → keepsRaw (length s) w ≡ true → got w ≡ stateAt h s p
+    unfolding stateAt
+    state-there f k = ap got f ∙ rw (le-leb (sizeOfHeader h) (p .offset) e, sym (ap (keepsRaw (length s)) f) ∙ k)
+
+    pub state-broken : {w : EntriesRaw} → w ≡ at → keepsRaw (length s) w ≡ false → refused 1 ≡ stateAt h s p
+    unfolding stateAt
+    state-broken f k = rw (le-leb (sizeOfHeader h) (p .offset) e, sym (ap (keepsRaw (length s)) f) ∙ k)
+
+  -- a state that is there keeps the sizes
+  pub state-kept : {w : EntriesRaw} → stateAt h s p ≡ got w → KeptRaw (length s) w
+  unfolding stateAt
+  state-kept {w} e = by (leb (sizeOfHeader h) (p .offset) && keepsRaw (length s) at) refl e
+    where
+      by : (b : Bool) → leb (sizeOfHeader h) (p .offset) && keepsRaw (length s) at ≡ b → cond b (got at) (refused 1) ≡ got w → KeptRaw (length s) w
+      by true q f = let z : at ≡ w = cc in subst (KeptRaw (length s)) z (raw-kept (length s) at (both (leb (sizeOfHeader h) (p .offset)) (keepsRaw (length s) at) q .1))
+      by false q f = absurd (let z : _≡_ {A = ℕ} 0 1 = cc in omega arith)
+
 -- ---- the entries of a unit
 
-module _ (abbrevs : List ℕ) (m k : ℕ) (h : UnitHeader) (s : List ℕ) where
-  abbrev lines : List Line → List Line
-  lines rest = partLines abbrevs m k h s rest
+module _ (abbrevs : List ℕ) (m k : ℕ) (h : UnitHeader) (s : List ℕ) (a : ListingPlace) (w : EntriesRaw) where
+  abbrev lines : List Placed → List Placed
+  lines rest = partLines abbrevs m k h s a w rest
 
   abbrev table : Answer (List Declaration)
   table = abbreviationsAt abbrevs (h .«debug_abbrev_offset») entryLimit (m / 5) (k / 3)
@@ -44,36 +83,34 @@ module _ (abbrevs : List ℕ) (m k : ℕ) (h : UnitHeader) (s : List ℕ) where
   pub part-none : (out : List ℕ) (p : Piece) → length s ≡ 0 → Held (length out) p → Written out out p lines (record { piece = p; stopped = false })
   unfolding partLines
   part-none out p e h =
-      let f : (rest : List Line) → lines rest ≡ rest = λ rest. rw (eq-eqb (length s) 0 e) in
+      let f : (rest : List Placed) → lines rest ≡ rest = λ rest. rw (eq-eqb (length s) 0 e) in
       record { held = h; is = λ rest. ap (adds (length out) (partOf p out)) (f rest) }
 
   module _ (some : length s ≡ 0 → ⊥) where
-    after-table : (rest : List Line) → lines rest ≡ orStop table (λ t. itemLines (entryLimit .most) (sourceFor h) s (tableRows m t) (tableSpecs k t) 0 (pos 0) rest)
+    after-table : (rest : List Placed) → lines rest ≡ orStop a table (λ t. itemLines (entryLimit .most) (a .unit) w s (tableRows m t) (tableSpecs k t) rest)
     unfolding partLines
     after-table rest = rw (ne-eqb (length s) 0 some)
 
     -- a table that was read
-    pub part-items : (rows specs : List ℕ) {out out' : List ℕ} {p : Piece} {n : ℕ} {src : Source} {r : Wrote} → src ≡ sourceFor h → andThen table (λ t. got (length t)) ≡ got n → Left m k rows specs table
-        → Written out out' p (itemLines (entryLimit .most) src s rows specs 0 (pos 0)) r → Written out out' p lines r
-    part-items rows specs {out} {out'} {p} {n} {src} {r} q e l w =
-        record { held = w .held; is = λ rest. ap (adds (length out) (partOf p out)) (after-table rest ∙ go rest table e l (sound abbrevs (h .«debug_abbrev_offset») entryLimit (m / 5) (k / 3))) ∙ w .is rest }
+    pub part-items : (rows specs : List ℕ) {out out' : List ℕ} {p : Piece} {n : ℕ} {r : Wrote} → andThen table (λ t. got (length t)) ≡ got n → Left m k rows specs table
+        → Written out out' p (itemLines (entryLimit .most) (a .unit) w s rows specs) r → Written out out' p lines r
+    part-items rows specs {out} {out'} {p} {n} {r} e l v =
+        record { held = v .held; is = λ rest. ap (adds (length out) (partOf p out)) (after-table rest ∙ go rest table e l (sound abbrevs (h .«debug_abbrev_offset») entryLimit (m / 5) (k / 3))) ∙ v .is rest }
       where
-        go : (rest : List Line) (a : Answer (List Declaration)) → andThen a (λ t. got (length t)) ≡ got n → Left m k rows specs a → Holds (Sound (entryLimit .most)) a
-            → orStop a (λ t. itemLines (entryLimit .most) (sourceFor h) s (tableRows m t) (tableSpecs k t) 0 (pos 0) rest) ≡ itemLines (entryLimit .most) src s rows specs 0 (pos 0) rest
-        go rest (got t) f L S =
-            sym (laid-lines (entryLimit .most) (sourceFor h) s S L 0 (pos 0) rest)
-            ∙ ap (λ (x : Source). itemLines (entryLimit .most) x s rows specs 0 (pos 0) rest) (sym q)
+        go : (rest : List Placed) (b : Answer (List Declaration)) → andThen b (λ t. got (length t)) ≡ got n → Left m k rows specs b → Holds (Sound (entryLimit .most)) b
+            → orStop a b (λ t. itemLines (entryLimit .most) (a .unit) w s (tableRows m t) (tableSpecs k t) rest) ≡ itemLines (entryLimit .most) (a .unit) w s rows specs rest
+        go rest (got t) f L S = sym (laid-lines (entryLimit .most) (a .unit) w s S L rest)
         go rest (refused j) f L S = absurd (let z : _≡_ {A = ℕ} 0 1 = cc in omega arith)
 
     -- a table that was refused
-    pub part-refused : {out out' : List ℕ} {p : Piece} {n : ℕ} {r : Wrote} → andThen table (λ t. got (length t)) ≡ refused n → Written out out' p (refusal n) r → Written out out' p lines r
-    part-refused {out} {out'} {p} {n} {r} e w =
-        record { held = w .held; is = λ rest. ap (adds (length out) (partOf p out)) (after-table rest ∙ go rest table e) ∙ w .is rest }
+    pub part-refused : {out out' : List ℕ} {p : Piece} {n : ℕ} {r : Wrote} → andThen table (λ t. got (length t)) ≡ refused n → Written out out' p (refusal a n) r → Written out out' p lines r
+    part-refused {out} {out'} {p} {n} {r} e v =
+        record { held = v .held; is = λ rest. ap (adds (length out) (partOf p out)) (after-table rest ∙ go rest table e) ∙ v .is rest }
       where
-        go : (rest : List Line) (a : Answer (List Declaration)) → andThen a (λ t. got (length t)) ≡ refused n
-            → orStop a (λ t. itemLines (entryLimit .most) (sourceFor h) s (tableRows m t) (tableSpecs k t) 0 (pos 0) rest) ≡ refusal n rest
+        go : (rest : List Placed) (b : Answer (List Declaration)) → andThen b (λ t. got (length t)) ≡ refused n
+            → orStop a b (λ t. itemLines (entryLimit .most) (a .unit) w s (tableRows m t) (tableSpecs k t) rest) ≡ refusal a n rest
         go rest (got t) f = absurd (let z : _≡_ {A = ℕ} 0 1 = cc in omega arith)
-        go rest (refused j) f = let z : j ≡ n = cc in ap (λ (i : ℕ). refusal i rest) z
+        go rest (refused j) f = let z : j ≡ n = cc in ap (λ (i : ℕ). refusal a i rest) z
 
 -- ---- a unit's bytes
 
@@ -106,24 +143,45 @@ module _ (info : List ℕ) (h : UnitHeader) (f : Fit (length info) h) {u s : Lis
   entries-short = omega (arith, buf .1, f .there)
 
   -- what is written of them is what is written of the unit
-  pub unit-written : (abbrevs : List ℕ) (i k : ℕ) {out out' : List ℕ} {p : Piece} {r : Wrote} → Written out out' p (partLines abbrevs i k h s) r
-      → Written out out' p (unitEntries (record { abbrevs = abbrevs; info = info; rows = i; specs = k }) h) r
-  unfolding unitEntries
-  unit-written abbrevs i k {out} {out'} {p} w =
-      record { held = w .held; is = λ rest. ap (λ (x : Answer (List ℕ)). adds (length out) (partOf p out) (orStop x (λ y. partLines abbrevs i k h y rest))) entries-there ∙ w .is rest }
+  module _ (x : Shelf) (same : x .info ≡ info) (p : ListingPlace) where
+    entered : (rest : List Placed) → unitEntries x h p rest ≡ orStop p (stateAt h s p) (λ w. partLines (x .abbrevs) (x .rows) (x .specs) h s p w rest)
+    unfolding unitEntries
+    entered rest = ap (λ (b : Answer (List ℕ)). orStop p b (λ y. orStop p (stateAt h y p) (λ w. partLines (x .abbrevs) (x .rows) (x .specs) h y p w rest))) (ap (entriesIn h) same ∙ entries-there)
+
+    pub unit-written : {w : EntriesRaw} {out out' : List ℕ} {q : Piece} {r : Wrote} → stateAt h s p ≡ got w → Written out out' q (partLines (x .abbrevs) (x .rows) (x .specs) h s p w) r → Written out out' q (unitEntries x h p) r
+    unit-written {w} {out} {out'} {q} e v =
+        let f : (rest : List Placed) → unitEntries x h p rest ≡ partLines (x .abbrevs) (x .rows) (x .specs) h s p w rest = λ rest. entered rest ∙ rw e in
+        record { held = v .held; is = λ rest. ap (adds (length out) (partOf q out)) (f rest) ∙ v .is rest }
+
+    pub unit-refused : {k : ℕ} {out out' : List ℕ} {q : Piece} {r : Wrote} → stateAt h s p ≡ refused k → Written out out' q (refusal p k) r → Written out out' q (unitEntries x h p) r
+    unit-refused {k} {out} {out'} {q} e v =
+        let f : (rest : List Placed) → unitEntries x h p rest ≡ refusal p k rest = λ rest. entered rest ∙ rw e in
+        record { held = v .held; is = λ rest. ap (adds (length out) (partOf q out)) (f rest) ∙ v .is rest }
 
 -- ---- a unit with its first line
 
-module _ (x : Shelf) (h : UnitHeader) {out out' : List ℕ} {p q : Piece} (l : Line) (e : l ≡ headLine h) (s : length out' ≡ length out) (d : Added out out' p l q) where
-  first-added : add (length out) (partOf p out) (headLine h) ≡ partOf q out'
-  first-added = ap (add (length out) (partOf p out)) (sym e) ∙ sym (d .is)
+module _ (x : Shelf) (at : ℕ) (h : UnitHeader) {out out' : List ℕ} {p q : Piece} (l : Line) (e : l ≡ headLine h) (s : length out' ≡ length out) (d : Added out out' p (put (placeOf at) l ∷ []) q) where
+  first-added : add (length out) (partOf p out) (put (placeOf at) (headLine h)) ≡ partOf q out'
+  first-added = ap (λ (y : Line). add (length out) (partOf p out) (put (placeOf at) y)) (sym e) ∙ sym (d .is)
 
-  pub one-written : {out'' : List ℕ} {r : Wrote} → Written out' out'' q (unitEntries x h) r → Written out out'' p (unitAll x h) r
-  one-written w = record { held = w .held; is = λ rest. ap (λ (y : Part). adds (length out) y (unitEntries x h rest)) first-added ∙ written-in s w rest }
+  pub one-written : {a : ListingPlace} {out'' : List ℕ} {r : Wrote} → a ≡ placeIn at (sizeOfHeader h) (pos 0) → Written out' out'' q (unitEntries x h a) r → Written out out'' p (unitAll x at h) r
+  one-written {a} f w =
+      record {
+        held = w .held;
+        is = λ rest.
+            ap (λ (y : Part). adds (length out) y (unitEntries x h (placeIn at (sizeOfHeader h) (pos 0)) rest)) first-added
+            ∙ ap (λ (b : ListingPlace). adds (length out) (partOf q out') (unitEntries x h b rest)) (sym f) ∙ written-in s w rest;
+      }
 
   -- its line filled the piece
-  pub one-full : q .full ≡ true → Written out out' p (unitAll x h) (record { piece = q; stopped = true })
-  one-full f = record { held = d .held; is = λ rest. ap (λ (y : Part). adds (length out) y (unitEntries x h rest)) first-added ∙ adds-full (length out) (partOf q out') (unitEntries x h rest) f }
+  pub one-full : q .full ≡ true → Written out out' p (unitAll x at h) (record { piece = q; stopped = true })
+  one-full f =
+      record {
+        held = d .held;
+        is = λ rest.
+            ap (λ (y : Part). adds (length out) y (unitEntries x h (placeIn at (sizeOfHeader h) (pos 0)) rest)) first-added
+            ∙ adds-full (length out) (partOf q out') (unitEntries x h (placeIn at (sizeOfHeader h) (pos 0)) rest) f;
+      }
 
 -- a header's line from its questions
 pub head-is : (h : UnitHeader) {o v b w : ℕ} → o ≡ h .offset → v ≡ h .encoding .version → b ≡ wordSize (h .encoding .format) → w ≡ h .encoding .«address_size» → unitLine o v (8 * b) w ≡ headLine h
@@ -145,9 +203,3 @@ size-most h =
         → initialLengthSize (h .encoding .format) + 3 + wordSize (h .encoding .format) + typeSize (h .«unit_type») (wordSize (h .encoding .format)) + cond v 1 0 ≤ 40
     go true l = omega arith
     go false l = omega arith
-
-pub source-is : (h : UnitHeader) {n : ℕ} → n ≡ sizeOfHeader h → _≡_ {A = Source} (record { start = n; encoding = h .encoding; endian = Little }) (sourceFor h)
-source-is h e = ap (λ (n : ℕ). from n) e
-  where
-    from : ℕ → Source
-    from n = record { start = n; encoding = h .encoding; endian = Little }

@@ -14,7 +14,8 @@ use lib.Seq.{take-suc, take-suc-set, take-all}
 use lib.Signed.{mag}
 use Rattle.reader.specs.Twos.{word}
 use Rattle.reader.proofs.Answers.{cond-by}
-use Rattle.listing.specs.Text.{digit, numeralWithin, numeral, signedNumeral, Line, unitLine, entryLine, nullLine, refusedLine, endLine, place, text, ascii, Put}
+use Rattle.listing.specs.Text.{digit, numeralWithin, numeral, signedNumeral, Line, unitLine, entryLine, nullLine, refusedLine, endLine, place, text, ascii}
+use Rattle.listing.specs.Written.{Put}
 
 -- ---- numerals
 

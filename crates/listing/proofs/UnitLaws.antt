@@ -25,19 +25,17 @@ use Rattle.unit.specs.Units.{Advanced, advanced, nextUnit}
 use Rattle.unit.specs.declared.header.UnitHeader.{UnitHeader}
 use Rattle.unit.proofs.ParseLaws.{HeaderIn, header-in}
 use Rattle.entries.specs.Entry.{Entry}
-use Rattle.entries.specs.Flat.{Reading, nothing, before, readOn, readWithin, readFrom}
+use Rattle.entries.specs.Flat.{Reading, nothing, before, readOn, readWithin, readFrom, never}
+use Rattle.entries.specs.Raw.{sourceOf}
+use Rattle.entries.specs.declared.raw.EntriesRaw.{EntriesRaw}
 use Rattle.entries.specs.Read.{Source, known, abbreviationAt, entryAt, entryAfter, afterEntry}
-use Rattle.listing.specs.Listing.{orStop, headLine, itemLine, readLines, itemLines, tableRows, tableSpecs, Shelf, unitEntries, unitAll, unitsWithin, unitLines, listing}
-use Rattle.listing.specs.Piece.{partOf, adds}
-use Rattle.listing.specs.Text.{Line, endLine, refusedLine}
-use Rattle.listing.specs.Written.{Held, Added, Written, Whole}
+use Rattle.listing.specs.Listing.{Placed, placeOf, put, orStop, headLine, readLines, itemLines, tableRows, tableSpecs, Shelf, unitEntries, unitAll, unitsWithin, unitLines, innerLines}
+use Rattle.listing.specs.Text.{endLine, refusedLine}
+use Rattle.listing.specs.Written.{partOf, adds, Held, Added, Written}
 use Rattle.listing.specs.declared.list.Wrote.{Wrote}
+use Rattle.listing.specs.declared.piece.ListingPlace.{ListingPlace}
 use Rattle.listing.specs.declared.piece.Piece.{Piece}
 use Rattle.listing.proofs.PieceLaws.{added-in, written-in}
-
--- no item is the last
-abbrev none-last : Entry → Bool
-none-last x = false
 
 -- ---- tables: whichever row holds which declaration, the lines are the same
 
@@ -56,18 +54,18 @@ module _ (most : ℕ) (src : Source) (s rows rows' specs : List ℕ) (h : (c : �
   unfolding entryAt
   entry-same at d = ap (λ (r : Answer (Read (Option Found))). andThen r (entryAfter most src s specs at d)) (code-same at)
 
-  on-same : (n at : ℕ) (d : ℤ) → ((at : ℕ) (d : ℤ) → readWithin most src s rows specs none-last n at d ≡ readWithin most src s rows' specs none-last n at d)
-      → (r : Answer (Read Entry)) → readOn none-last at d (λ i. readWithin most src s rows specs none-last n (i .next) (afterEntry (i .value))) r ≡ readOn none-last at d (λ i. readWithin most src s rows' specs none-last n (i .next) (afterEntry (i .value))) r
+  on-same : (n at : ℕ) (d : ℤ) → ((at : ℕ) (d : ℤ) → readWithin most src s rows specs never n at d ≡ readWithin most src s rows' specs never n at d)
+      → (r : Answer (Read Entry)) → readOn never at d (λ i. readWithin most src s rows specs never n (i .next) (afterEntry (i .value))) r ≡ readOn never at d (λ i. readWithin most src s rows' specs never n (i .next) (afterEntry (i .value))) r
   on-same n at d f (got i) = ap (before i) (f (i .next) (afterEntry (i .value)))
   on-same n at d f (refused m) = refl
 
-  within-same : (n at : ℕ) (d : ℤ) → readWithin most src s rows specs none-last n at d ≡ readWithin most src s rows' specs none-last n at d
+  within-same : (n at : ℕ) (d : ℤ) → readWithin most src s rows specs never n at d ≡ readWithin most src s rows' specs never n at d
   unfolding readWithin
   within-same zero at d = refl
   within-same (suc n) at d =
       ap (cond (leb (length s) at) nothing)
       (on-same n at d (λ a e. within-same n a e) (entryAt most src s rows specs at d)
-      ∙ ap (readOn none-last at d (λ i. readWithin most src s rows' specs none-last n (i .next) (afterEntry (i .value)))) (entry-same at d))
+      ∙ ap (readOn never at d (λ i. readWithin most src s rows' specs never n (i .next) (afterEntry (i .value)))) (entry-same at d))
 
 perm-same : (l : List Row) → List·Permᴰ l l
 perm-same [] = List·Permᴰ·nil
@@ -77,13 +75,13 @@ perm-same (r ∷ l) = List·Permᴰ·cons refl (perm-same l)
 in-order : {m k : ℕ} {rows specs : List ℕ} {t : List Declaration} → Laid m k rows specs t → Laid m k (tableRows m t) specs t
 in-order {t = t} L = record { rowChoice = rowsFrom 0 t; all = perm-same (rowsFrom 0 t); rows-are = refl; specs-are = L .specs-are }
 
-pub laid-lines : {m k : ℕ} {rows specs : List ℕ} {t : List Declaration} (most : ℕ) (src : Source) (s : List ℕ) → Sound most t → Laid m k rows specs t
-    → (at : ℕ) (d : ℤ) (rest : List Line) → itemLines most src s rows specs at d rest ≡ itemLines most src s (tableRows m t) (tableSpecs k t) at d rest
+pub laid-lines : {m k : ℕ} {rows specs : List ℕ} {t : List Declaration} (most unit : ℕ) (w : EntriesRaw) (s : List ℕ) → Sound most t → Laid m k rows specs t
+    → (rest : List Placed) → itemLines most unit w s rows specs rest ≡ itemLines most unit w s (tableRows m t) (tableSpecs k t) rest
 unfolding itemLines readFrom
-laid-lines {m} {k} {rows} {specs} {t} most src s S L at d rest =
-    ap (λ (r : Reading). readLines r rest)
-    (within-same most src s rows (tableRows m t) specs (lookup-same most S L (in-order L)) (length s - at) at d
-    ∙ ap (λ (x : List ℕ). readWithin most src s (tableRows m t) x none-last (length s - at) at d) (L .specs-are))
+laid-lines {m} {k} {rows} {specs} {t} most unit w s S L rest =
+    ap (λ (r : Reading). readLines unit (w .start) r rest)
+    (within-same most (sourceOf w) s rows (tableRows m t) specs (lookup-same most S L (in-order L)) (length s - w .position) (w .position) (w .depth)
+    ∙ ap (λ (x : List ℕ). readWithin most (sourceOf w) s (tableRows m t) x never (length s - w .position) (w .position) (w .depth)) (L .specs-are))
 
 -- ---- units
 
@@ -135,15 +133,15 @@ module _ (x : Shelf) where
   behind at = nextUnit (x .info) at Little .offset
 
   -- what follows the list's answer, with the lines of the other units
-  abbrev unitsBy : (ℕ → List Line) → ℕ → Option UnitHeader → List Line
-  unitsBy more at o = ifSome o (endLine ∷ []) (λ h. headLine h ∷ unitEntries x h (more (behind at)))
+  abbrev unitsBy : (ℕ → List Placed) → ℕ → Option UnitHeader → List Placed
+  unitsBy more at o = ifSome o (put (placeOf at) endLine ∷ []) (λ h. unitAll x at h (more (behind at)))
 
-  same-by : (f g : ℕ → List Line) (at : ℕ) → ((h : UnitHeader) → answerAt at ≡ got (some h) → f (behind at) ≡ g (behind at)) → orStop (answerAt at) (unitsBy f at) ≡ orStop (answerAt at) (unitsBy g at)
+  same-by : (f g : ℕ → List Placed) (at : ℕ) → ((h : UnitHeader) → answerAt at ≡ got (some h) → f (behind at) ≡ g (behind at)) → orStop (placeOf at) (answerAt at) (unitsBy f at) ≡ orStop (placeOf at) (answerAt at) (unitsBy g at)
   same-by f g at h = go (answerAt at) refl
     where
-      go : (r : Answer (Option UnitHeader)) → answerAt at ≡ r → orStop r (unitsBy f at) ≡ orStop r (unitsBy g at)
+      go : (r : Answer (Option UnitHeader)) → answerAt at ≡ r → orStop (placeOf at) r (unitsBy f at) ≡ orStop (placeOf at) r (unitsBy g at)
       go (got none) q = refl
-      go (got (some u)) q = ap (λ (l : List Line). headLine u ∷ unitEntries x u l) (h u q)
+      go (got (some u)) q = ap (λ (l : List Placed). unitAll x at u l) (h u q)
       go (refused n) q = refl
 
   further-unit : (at : ℕ) (h : UnitHeader) → answerAt at ≡ got (some h) → at < behind at
@@ -157,65 +155,110 @@ module _ (x : Shelf) where
       same-by (unitsWithin x n) (unitsWithin x m) at
       (λ u e.
       let z = further-unit at u e in
-      let w = unit-in (x .info) at e in
-      units-same n m (behind at) (w .there) (omega arith) (omega arith))
+      units-same n m (behind at) (unit-in (x .info) at e .there) (omega arith) (omega arith))
 
   -- the definition without its count
-  pub units-step : (at : ℕ) → at ≤ length (x .info) → unitLines x at ≡ orStop (answerAt at) (unitsBy (unitLines x) at)
+  pub units-step : (at : ℕ) → unitLines x at ≡ orStop (placeOf at) (answerAt at) (unitsBy (unitLines x) at)
   unfolding unitLines unitsWithin
-  units-step at l =
+  units-step at =
       same-by (unitsWithin x (length (x .info) - at)) (λ p. unitsWithin x (suc (length (x .info) - p)) p) at
       (λ u e.
       let z = further-unit at u e in
       let w = unit-in (x .info) at e in
-      units-same (length (x .info) - at) (suc (length (x .info) - behind at)) (behind at) (w .there) (omega arith) (omega arith))
+      units-same (length (x .info) - at) (suc (length (x .info) - behind at)) (behind at) (w .there) (omega (arith, w .there)) (omega (arith, w .there)))
 
 -- as many lent words, the same lines
-pub written-same : (x : Shelf) (h : UnitHeader) {i k : ℕ} {p : Piece} {out out' : List ℕ} {r : Wrote} → i ≡ x .rows → k ≡ x .specs
-    → Written out out' p (unitAll (record { abbrevs = x .abbrevs; info = x .info; rows = i; specs = k }) h) r → Written out out' p (unitAll x h) r
-written-same x h {i} {k} {p} {out} {out'} {r} e f w =
-    subst (λ (n : ℕ). Written out out' p (unitAll (record { abbrevs = x .abbrevs; info = x .info; rows = x .rows; specs = n }) h) r) f
-    (subst (λ (n : ℕ). Written out out' p (unitAll (record { abbrevs = x .abbrevs; info = x .info; rows = n; specs = k }) h) r) e w)
+pub written-same : (x : Shelf) (lines : Shelf → List Placed → List Placed) {i k : ℕ} {p : Piece} {out out' : List ℕ} {r : Wrote} → i ≡ x .rows → k ≡ x .specs
+    → Written out out' p (lines (record { abbrevs = x .abbrevs; info = x .info; rows = i; specs = k })) r → Written out out' p (lines x) r
+written-same x lines {i} {k} {p} {out} {out'} {r} e f w =
+    subst (λ (n : ℕ). Written out out' p (lines (record { abbrevs = x .abbrevs; info = x .info; rows = x .rows; specs = n })) r) f
+    (subst (λ (n : ℕ). Written out out' p (lines (record { abbrevs = x .abbrevs; info = x .info; rows = n; specs = k })) r) e w)
+
+pub added-same : (x : Shelf) (lines : Shelf → List Placed) {i k : ℕ} {p r : Piece} {out out' : List ℕ} → i ≡ x .rows → k ≡ x .specs
+    → Added out out' p (lines (record { abbrevs = x .abbrevs; info = x .info; rows = i; specs = k })) r → Added out out' p (lines x) r
+added-same x lines {i} {k} {p} {r} {out} {out'} e f w =
+    subst (λ (n : ℕ). Added out out' p (lines (record { abbrevs = x .abbrevs; info = x .info; rows = x .rows; specs = n })) r) f
+    (subst (λ (n : ℕ). Added out out' p (lines (record { abbrevs = x .abbrevs; info = x .info; rows = n; specs = k })) r) e w)
+
+-- lines that were written, and those behind them unless they stopped
+module _ (out₀ out out' : List ℕ) (p q : Piece) (all : List Placed → List Placed) (r : Wrote) (ls rest : List Placed) (same : length out ≡ length out₀)
+    (is : adds (length out₀) (partOf p out₀) ls ≡ adds (length out₀) (partOf q out) (all rest)) (w : Written out out' q all r) where
+  by-stop : (b : Bool) → r .stopped ≡ b → adds (length out₀) (partOf p out₀) ls ≡ cond b (partOf (r .piece) out') (adds (length out₀) (partOf (r .piece) out') rest)
+  by-stop b f = is ∙ written-in same w rest ∙ ap (λ (c : Bool). cond c (partOf (r .piece) out') (adds (length out₀) (partOf (r .piece) out') rest)) f
+
+  pub lines-stopped : r .stopped ≡ true → Added out₀ out' p ls (r .piece)
+  lines-stopped f = record { held = w .held; is = sym (by-stop true f) }
+
+  pub lines-further : r .stopped ≡ false → adds (length out₀) (partOf p out₀) ls ≡ adds (length out₀) (partOf (r .piece) out') rest
+  lines-further f = by-stop false f
 
 -- ---- the loop over units
 
-module _ (x : Shelf) where
+module _ (x : Shelf) (from : ℕ) where
   -- lines that were added, and those still to come
   pub record Shelved (out₀ : List ℕ) (p : Piece) (out : List ℕ) (at : ℕ) (q : Piece) : Type 0 where
-    pub inside : at ≤ length (x .info)
     pub same : length out ≡ length out₀
     pub held : Held (length out) q
-    pub is : adds (length out₀) (partOf p out₀) (listing x) ≡ adds (length out₀) (partOf q out) (unitLines x at)
+    pub is : adds (length out₀) (partOf p out₀) (unitLines x from) ≡ adds (length out₀) (partOf q out) (unitLines x at)
 
-  pub shelved-begun : (out : List ℕ) (p : Piece) → Held (length out) p → Shelved out p out 0 p
-  shelved-begun out p h = record { inside = omega arith; same = refl; held = h; is = refl }
+  pub shelved-begun : (out : List ℕ) (p : Piece) → Held (length out) p → Shelved out p out from p
+  shelved-begun out p h = record { same = refl; held = h; is = refl }
 
   pub shelved-at : {out₀ out : List ℕ} {p q : Piece} {a b : ℕ} → a ≡ b → Shelved out₀ p out a q → Shelved out₀ p out b q
   shelved-at {out₀} {out} {p} {q} e t = subst (λ (n : ℕ). Shelved out₀ p out n q) e t
 
   module _ {out₀ : List ℕ} {p : Piece} {out : List ℕ} {at : ℕ} {q : Piece} (t : Shelved out₀ p out at q) where
     -- the last line
-    pub shelved-last : {out' : List ℕ} {r : Piece} (l : Line) → unitLines x at ≡ l ∷ [] → Added out out' q l r → Whole out₀ out' p (listing x) r
-    shelved-last {out'} {r} l e d =
-        record { held = d .held; is = sym (t .is ∙ ap (adds (length out₀) (partOf q out)) e ∙ added-in (t .same) d) }
+    shelved-last : {out' : List ℕ} {r : Piece} {ls : List Placed} → unitLines x at ≡ ls → Added out out' q ls r → Added out₀ out' p (unitLines x from) r
+    shelved-last {out'} {r} e d = record { held = d .held; is = sym (t .is ∙ ap (adds (length out₀) (partOf q out)) e ∙ added-in (t .same) d) }
 
-    pub last-none : answerAt x at ≡ got none → unitLines x at ≡ endLine ∷ []
-    last-none e = units-step x at (t .inside) ∙ rw e
+    last-none : answerAt x at ≡ got none → unitLines x at ≡ put (placeOf at) endLine ∷ []
+    last-none e = units-step x at ∙ rw e
 
-    pub last-refused : {n : ℕ} → answerAt x at ≡ refused n → unitLines x at ≡ refusedLine n ∷ []
-    last-refused e = units-step x at (t .inside) ∙ rw e
+    last-refused : {n : ℕ} → answerAt x at ≡ refused n → unitLines x at ≡ put (placeOf at) (refusedLine n) ∷ []
+    last-refused e = units-step x at ∙ rw e
 
-    module _ {h : UnitHeader} (e : answerAt x at ≡ got (some h)) {out' : List ℕ} {r : Wrote} (w : Written out out' q (unitAll x h) r) where
-      together : adds (length out₀) (partOf p out₀) (listing x) ≡ cond (r .stopped) (partOf (r .piece) out') (adds (length out₀) (partOf (r .piece) out') (unitLines x (behind x at)))
-      together =
-          let f : unitLines x at ≡ unitAll x h (unitLines x (behind x at)) = units-step x at (t .inside) ∙ rw e in
-          t .is ∙ ap (adds (length out₀) (partOf q out)) f ∙ written-in (t .same) w (unitLines x (behind x at))
+    pub shelved-none : {a : ListingPlace} {out' : List ℕ} {r : Piece} → answerAt x at ≡ got none → a ≡ placeOf at → Added out out' q (put a endLine ∷ []) r → Added out₀ out' p (unitLines x from) r
+    shelved-none e f d = shelved-last (last-none e ∙ ap (λ (a : ListingPlace). put a endLine ∷ []) (sym f)) d
 
-      by-stop : {b : Bool} → r .stopped ≡ b → adds (length out₀) (partOf p out₀) (listing x) ≡ cond b (partOf (r .piece) out') (adds (length out₀) (partOf (r .piece) out') (unitLines x (behind x at)))
-      by-stop {b} f = together ∙ ap (λ (c : Bool). cond c (partOf (r .piece) out') (adds (length out₀) (partOf (r .piece) out') (unitLines x (behind x at)))) f
+    pub shelved-refused : {n : ℕ} {a : ListingPlace} {out' : List ℕ} {r : Piece} → answerAt x at ≡ refused n → a ≡ placeOf at → Added out out' q (put a (refusedLine n) ∷ []) r → Added out₀ out' p (unitLines x from) r
+    shelved-refused {n} e f d = shelved-last (last-refused e ∙ ap (λ (a : ListingPlace). put a (refusedLine n) ∷ []) (sym f)) d
 
-      pub shelved-stopped : r .stopped ≡ true → Whole out₀ out' p (listing x) (r .piece)
-      shelved-stopped f = record { held = w .held; is = sym (by-stop f) }
+    module _ {h : UnitHeader} (e : answerAt x at ≡ got (some h)) {out' : List ℕ} {r : Wrote} (w : Written out out' q (unitAll x at h) r) where
+      opened : adds (length out₀) (partOf p out₀) (unitLines x from) ≡ adds (length out₀) (partOf q out) (unitAll x at h (unitLines x (behind x at)))
+      opened =
+          let f : unitLines x at ≡ unitAll x at h (unitLines x (behind x at)) = units-step x at ∙ rw e in
+          t .is ∙ ap (adds (length out₀) (partOf q out)) f
+
+      pub shelved-stopped : r .stopped ≡ true → Added out₀ out' p (unitLines x from) (r .piece)
+      shelved-stopped f = lines-stopped out₀ out out' p q (unitAll x at h) r (unitLines x from) (unitLines x (behind x at)) (t .same) opened w f
 
       pub shelved-further : r .stopped ≡ false → length out' ≡ length out → Shelved out₀ p out' (behind x at) (r .piece)
-      shelved-further f l = record { inside = unit-in (x .info) at e .there; same = l ∙ t .same; held = w .held; is = by-stop f }
+      shelved-further f l = record { same = l ∙ t .same; held = w .held; is = lines-further out₀ out out' p q (unitAll x at h) r (unitLines x from) (unitLines x (behind x at)) (t .same) opened w f }
+
+-- ---- from the middle of a unit on
+
+module _ (x : Shelf) (a : ListingPlace) where
+  pub inner-none : answerAt x (a .unit) ≡ got none → innerLines x a ≡ put a (refusedLine 1) ∷ []
+  unfolding innerLines
+  inner-none e = rw e
+
+  pub inner-refused : {n : ℕ} → answerAt x (a .unit) ≡ refused n → innerLines x a ≡ put a (refusedLine n) ∷ []
+  unfolding innerLines
+  inner-refused e = rw e
+
+  module _ {h : UnitHeader} (e : answerAt x (a .unit) ≡ got (some h)) where
+    pub inner-unit : innerLines x a ≡ unitEntries x h a (unitLines x (behind x (a .unit)))
+    unfolding innerLines
+    inner-unit = rw e
+
+    module _ {out out' : List ℕ} {p : Piece} {r : Wrote} (w : Written out out' p (unitEntries x h a) r) where
+      start : adds (length out) (partOf p out) (innerLines x a) ≡ adds (length out) (partOf p out) (unitEntries x h a (unitLines x (behind x (a .unit))))
+      start = ap (adds (length out) (partOf p out)) inner-unit
+
+      pub inner-stopped : r .stopped ≡ true → Added out out' p (innerLines x a) (r .piece)
+      inner-stopped f = lines-stopped out out out' p p (unitEntries x h a) r (innerLines x a) (unitLines x (behind x (a .unit))) refl start w f
+
+      -- and then the other units
+      pub inner-further : r .stopped ≡ false → length out' ≡ length out → {out'' : List ℕ} {q : Piece} → Added out' out'' (r .piece) (unitLines x (behind x (a .unit))) q → Added out out'' p (innerLines x a) q
+      inner-further f l d = record { held = d .held; is = sym (lines-further out out out' p p (unitEntries x h a) r (innerLines x a) (unitLines x (behind x (a .unit))) refl start w f ∙ added-in l d) }

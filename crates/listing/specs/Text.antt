@@ -1,5 +1,4 @@
 -- Document 01, "Readings": the lines of `shelflist`, as bytes.
-use mathlib.Core.Path.{_≡_}
 use mathlib.Core.Bool.{cond}
 use mathlib.Core.List.{List, [], _∷_, _++_}
 use Prim.Native.Char.{code}
@@ -8,7 +7,6 @@ use Prim.Native.String as string
 use Prim.Native.String.{String}
 use lib.Dec.{ltb}
 use lib.IntN.{ℤ, pos, negsuc}
-use lib.ListN.{length, take}
 
 -- the bytes of a text in ASCII
 abbrev pub ascii : String → List ℕ
@@ -54,10 +52,3 @@ text (entryLine offset depth tag count) = place offset depth ++ ascii " 0x" ++ n
 text (nullLine offset depth) = place offset depth ++ ascii " null\n"
 text (refusedLine number) = ascii "refused " ++ numeral 10 number ++ ascii "\n"
 text endLine = ascii "end\n"
-
--- ---- text stored
-
--- a buffer has t from `at` up to r, and what it had before `at`
-pub record Put (before after : List ℕ) (at r : ℕ) (t : List ℕ) : Type 0 where
-  pub ends : r ≡ at + length t
-  pub bytes : take r after ≡ take at before ++ t

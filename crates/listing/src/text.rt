@@ -1,12 +1,13 @@
 // Lines and their numbers stored into a lent buffer. Each function gives the place after what it
-// stored. No line has more than 72 bytes (`text-most`).
+// stored. No line has more than the 72 bytes that it is begun with (`text-most`).
 
 use reader::twos::to_word;
 ghost use mathlib.Core.Path.{_≡_};
 ghost use mathlib.Core.List.{[], _∷_, _++_};
 ghost use Prim.Native.Nat.{_+_, _≤_, _<_};
 ghost use lib.ListN.{length};
-ghost use Rattle.listing.specs.Text.{digit, numeral, signedNumeral, place, unitLine, entryLine, nullLine, refusedLine, endLine, text, Put};
+ghost use Rattle.listing.specs.Text.{digit, numeral, signedNumeral, place, unitLine, entryLine, nullLine, refusedLine, endLine, text};
+ghost use Rattle.listing.specs.Written.{Put};
 
 pub enum Line {
     // offset, version, format bits, address width

@@ -1,5 +1,5 @@
 use Rattle.listing.proofs.PieceLaws.{lined}
-use Rattle.listing.specs.Piece.{viewLine}
+use Rattle.listing.specs.Written.{viewLine}
 use Rattle.listing.specs.Text.{unitLine, entryLine, nullLine, refusedLine, endLine}
 use borrow.Author.Needs.{needs}
 use mathlib.Core.Path.{_≡_, ap}
