@@ -10,7 +10,7 @@ use Rattle.reader.specs.declared.common.Encoding.{Encoding}
 use Rattle.reader.specs.declared.common.Format.the-variants.{Dwarf32}
 use Rattle.reader.specs.declared.endianity.RunTimeEndian.{RunTimeEndian}
 use Rattle.entries.specs.Entry.{Entry, nullEntry, isNull, jumpOf}
-use Rattle.entries.specs.Raw.{keepsRaw, movedTo, opened, emptyRaw, sourceOf}
+use Rattle.entries.specs.Raw.{keepsRaw, movedTo, startOf, opened, emptyRaw, sourceOf}
 use Rattle.entries.specs.Read.{abbreviationAt, depthAfter, entryAt, sameDepth}
 use Rattle.entries.specs.declared.raw.EntriesRaw.{EntriesRaw}
 
@@ -25,17 +25,11 @@ newCursor most w = record { input = w; entry = nullEntry most 0 (pos 0) }
 unfoldable pub openedCursor : ℕ → ℕ → ℕ → Encoding → RunTimeEndian → Answer Cursor
 openedCursor most count start c e = andThen (opened count start c e) (λ w. got (newCursor most w))
 
--- an opening that refuses gives no state: beside it stands one that every call refuses with 1, since 01's sizes let no bytes start there
+-- an opening that refuses gives no state: beside it stands one that every call that reads refuses with 1, since 01's sizes let no bytes start there
 abbrev pub noCursor : ℕ → RunTimeEndian → Cursor
 noCursor most e =
     newCursor most
-    (record {
-      start = 2 ^ 63;
-      position = 0;
-      depth = pos 0;
-      encoding = record { «address_size» = 0; format = Dwarf32; version = 0 };
-      endian = e;
-    })
+    (startOf (record { start = 2 ^ 63; encoding = record { «address_size» = 0; format = Dwarf32; version = 0 }; endian = e }))
 
 pub record OpenedCursor : Type 0 where
   pub answer : Answer (Unit {0})

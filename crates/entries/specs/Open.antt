@@ -1,10 +1,12 @@
 -- Readers opened by a unit's header, over the unit's own bytes.
-use mathlib.Core.Bool.{cond}
+use mathlib.Core.Bool.{Bool, cond, _&&_}
 use mathlib.Core.List.{List}
 use Prim.Native.Nat.{ℕ}
+use lib.Dec.{leb}
 use lib.ListN.{length}
 use lib.IntN.{pos}
 use Rattle.reader.specs.Answer.{Answer, got, refused, andThen}
+use Rattle.reader.specs.Sizes.{maxSection}
 use Rattle.reader.specs.declared.endianity.RunTimeEndian.{RunTimeEndian}
 use Rattle.abbrev.specs.Table.{Limit, Declaration, abbreviationsAt}
 use Rattle.unit.specs.Header.{sizeOfHeader}
@@ -13,7 +15,7 @@ use Rattle.unit.specs.Range.{entriesBuf, rangeFrom}
 use Rattle.unit.specs.declared.header.UnitHeader.{UnitHeader}
 use Rattle.entries.specs.Cursor.{Cursor, newCursor, openedCursor, noCursor}
 use Rattle.entries.specs.Entry.{Entry, nullEntry}
-use Rattle.entries.specs.Raw.{Taken, opened, startOf, unitSource, rawEntry}
+use Rattle.entries.specs.Raw.{Taken, judged, opened, startOf, unitSource, rawEntry}
 use Rattle.entries.specs.declared.raw.EntriesRaw.{EntriesRaw}
 
 -- 01, question 20: no null
@@ -67,15 +69,21 @@ abbrev pub orNoUnit : ℕ → RunTimeEndian → Answer OwnUnit → UnitAt
 orNoUnit most e (got u) = record { answer = got (u .header); cursor = u .cursor }
 orNoUnit most e (refused n) = record { answer = refused n; cursor = noCursor most e }
 
+-- 01, question 1, of both sections and before all reading
+abbrev pub sectionsKept : List ℕ → List ℕ → Bool
+sectionsKept abbrevs info = leb (length abbrevs) maxSection && leb (length info) maxSection
+
 module _ (abbrevs info : List ℕ) (offset : ℕ) (e : RunTimeEndian) (l : Limit) (rows free : ℕ) where
   -- the table that the header at an offset points to, in so many rows
   unfoldable pub ownTable : Answer (List Declaration)
   ownTable =
-      andThen (headerAt debugInfo info offset e)
-      (λ h. abbreviationsAt abbrevs (h .value .«debug_abbrev_offset») l rows free)
+      judged (sectionsKept abbrevs info)
+      (andThen (headerAt debugInfo info offset e)
+      (λ h. abbreviationsAt abbrevs (h .value .«debug_abbrev_offset») l rows free))
 
   -- the header there and a cursor over its entries, once its table was read
   unfoldable pub unitFrom : Answer OwnUnit
   unitFrom =
-      andThen (headerAt debugInfo info offset e)
-      (λ h. andThen (abbreviationsAt abbrevs (h .value .«debug_abbrev_offset») l rows free) (λ t. got (ownUnit (l .most) (h .value) e)))
+      judged (sectionsKept abbrevs info)
+      (andThen (headerAt debugInfo info offset e)
+      (λ h. andThen (abbreviationsAt abbrevs (h .value .«debug_abbrev_offset») l rows free) (λ t. got (ownUnit (l .most) (h .value) e))))

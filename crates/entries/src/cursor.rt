@@ -27,6 +27,7 @@ use super::raw::depth_at;
 use super::raw::keeps_depth;
 use super::raw::keeps_raw;
 use super::raw::moved;
+use super::raw::start_of;
 use abbrev::table::MAX_ATTRIBUTES;
 use reader::answer::Place;
 use reader::common::Encoding;
@@ -188,13 +189,7 @@ pub(crate) fn no_cursor(endian: RunTimeEndian) -> EntriesCursor
         format: Format::Dwarf32,
         version: 0,
     };
-    let input = EntriesRaw {
-        start: 0x8000_0000_0000_0000,
-        position: 0,
-        depth: 0,
-        encoding,
-        endian,
-    };
+    let input = start_of(0x8000_0000_0000_0000, encoding, endian);
     let entry = null_at(0, 0);
     EntriesCursor { input, entry }
 }

@@ -22,6 +22,7 @@ use super::raw::Outcome;
 use super::raw::Said;
 use abbrev::rows::wipe;
 use abbrev::table::Abbreviations;
+use reader::common::MAX_SECTION;
 use reader::endianity::RunTimeEndian;
 use reader::error::Error;
 use unit::header::UnitHeader;
@@ -161,15 +162,7 @@ pub fn entry(
 fn at_root(header: UnitHeader, endian: RunTimeEndian) -> EntriesCursor
     ensures { λ r. ⌜ viewCursor r ≡ ownUnit (entryLimit .most) header endian .cursor ⌝ }
 {
-    let encoding = header.encoding;
-    let start = header.root_offset();
-    let input = EntriesRaw {
-        start,
-        position: 0,
-        depth: 0,
-        encoding,
-        endian,
-    };
+    let input = EntriesRaw::at_start(header, endian);
     let entry = null_at(0, 0);
     EntriesCursor { input, entry }
 }
@@ -185,7 +178,8 @@ fn refuse_unit(error: Error, endian: RunTimeEndian) -> OpenedUnit
 }
 
 // The unit at an offset of .debug_info, with the table that its own header points to in the lent
-// rows: they are zero after a refusal, so that no unit is read with another one's table.
+// rows: they are zero after a refusal, so that no unit is read with another one's table. The header is
+// read once both sections are known to be short enough; of its own section it asks that itself.
 pub fn open_unit(
     info: &[u8],
     offset: u64,
@@ -196,6 +190,10 @@ pub fn open_unit(
 ) -> OpenedUnit
     ensures { λ r. ⌜ OpenedAs (now (abbrevs .entry)) (now (info .entry)) offset endian (now (rows .entry)) (now (specs .entry)) (now (rows .exit)) (now (specs .exit)) r ⌝ }
 {
+    if MAX_SECTION < abbrevs.len() {
+        wipe(rows, specs);
+        return refuse_unit(Error::SizeLimit, endian);
+    }
     match DebugInfo::header_from_offset(info, offset, endian) {
         Header::Got(header, _) => match header.abbreviations(abbrevs, rows, specs) {
             Abbreviations::Got(_) => {

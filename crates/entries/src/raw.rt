@@ -18,7 +18,7 @@ ghost use Rattle.attribute.specs.Views.{viewAttribute};
 ghost use Rattle.entries.specs.Cursor.{depthPast};
 ghost use Rattle.entries.specs.Entry.{nullEntry};
 ghost use Rattle.entries.specs.Pass.{passedTo, told};
-ghost use Rattle.entries.specs.Raw.{keepsRaw, movedTo, moves, opened, emptyRaw, offsetOf, rawAbbreviation, refusedEntry, taken, rawEntry, rawAttribute, rawAttributes, rawSkip};
+ghost use Rattle.entries.specs.Raw.{keepsRaw, movedTo, startOf, unitSource, moves, opened, emptyRaw, offsetOf, rawAbbreviation, refusedEntry, taken, rawEntry, rawAttribute, rawAttributes, rawSkip};
 ghost use Rattle.entries.specs.Read.{abbreviationAt, codeFor, raised};
 ghost use Rattle.entries.specs.Steps.{KeptRaw, Onward, tookEntry};
 ghost use Rattle.entries.specs.Views.{viewOpened, viewCode, viewRawAbbreviation, viewRawEntry, viewRawPassed, viewRawAttribute, viewRawAttributes, viewRawSkipped};
@@ -42,6 +42,7 @@ use reader::common::Encoding;
 use reader::endianity::RunTimeEndian;
 use reader::error::Error;
 use reader::leb128::read_uleb128;
+use unit::header::UnitHeader;
 
 pub struct EntriesRaw {
     // the offset in the unit where the bytes start
@@ -201,6 +202,19 @@ pub(crate) fn moved(raw: EntriesRaw, position: usize, depth: i64) -> EntriesRaw
         start: raw.start,
         position,
         depth,
+        encoding,
+        endian,
+    }
+}
+
+// The state before the first byte.
+pub(crate) fn start_of(start: usize, encoding: Encoding, endian: RunTimeEndian) -> EntriesRaw
+    ensures { λ r. ⌜ r ≡ startOf (record { start = start; encoding = encoding; endian = endian }) ⌝ }
+{
+    EntriesRaw {
+        start,
+        position: 0,
+        depth: 0,
         encoding,
         endian,
     }
@@ -383,13 +397,8 @@ impl EntriesRaw {
         ensures { λ r. ⌜ viewOpened r ≡ opened (length (now (bytes .entry))) start encoding endian ⌝ }
     {
         if keeps_place(bytes.len(), start, 0) {
-            return Opened::Got(EntriesRaw {
-                start,
-                position: 0,
-                depth: 0,
-                encoding,
-                endian,
-            });
+            let raw = start_of(start, encoding, endian);
+            return Opened::Got(raw);
         }
         Opened::Refused(Error::SizeLimit)
     }
@@ -399,6 +408,16 @@ impl EntriesRaw {
         ensures { λ r. ⌜ r ≡ keepsRaw count self ⌝ }
     {
         keeps_raw(count, self)
+    }
+
+    // Before the root of a unit, over the part that `entries_buf` hands on. Nothing is asked of the part
+    // here: a call that reads refuses one that is too long.
+    pub fn at_start(header: UnitHeader, endian: RunTimeEndian) -> EntriesRaw
+        ensures { λ r. ⌜ r ≡ startOf (unitSource header endian) ⌝ }
+    {
+        let start = header.root_offset();
+        let encoding = header.encoding;
+        start_of(start, encoding, endian)
     }
 
     pub fn is_empty(self, bytes: &[u8]) -> bool

@@ -7,5 +7,6 @@ no-cursor-spec =
     tie.close
     (tie.spec
     (λ c κs. search needs)
+    (λ c κs. search needs)
     -- returns
-    (λ c. rw (c .null-at .ensures)))
+    (λ c. rw (c .null-at .ensures, c .before .start-of .ensures)))

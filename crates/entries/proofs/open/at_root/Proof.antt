@@ -9,4 +9,4 @@ at-root-spec =
     (λ c κs. search needs)
     (λ c κs. search needs)
     -- returns
-    (λ c. rw (c .null-at .ensures, c .before .root-offset .ensures)))
+    (λ c. rw (c .null-at .ensures, c .before .at-start .ensures)))

@@ -13,7 +13,8 @@ new-spec =
     tie.close
     (tie.spec
     (λ c κs. search needs)
+    (λ c κs. search needs)
     -- returns
-    (λ c. rw (rw (le-leb 0 (length (c .before .before .before .args .bytes .now)) (omega arith)) at (sym (c .before .keeps-place .ensures) ∙ c .if1 .taken)))
+    (λ c. rw (c .start-of .ensures, rw (le-leb 0 (length (c .before .before .before .before .args .bytes .now)) (omega arith)) at (sym (c .before .before .keeps-place .ensures) ∙ c .before .if1 .taken)))
     -- returns-2
     (λ c. rw (rw (le-leb 0 (length (c .before .before .before .args .bytes .now)) (omega arith)) at (sym (c .before .keeps-place .ensures) ∙ c .if1 .left))))
