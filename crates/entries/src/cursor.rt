@@ -40,7 +40,7 @@ pub struct EntriesCursor {
     pub entry: Entry,
 }
 
-// After a refusal the cursor is one that every call refuses.
+// After a refusal the cursor is one that every call that reads refuses.
 pub struct OpenedCursor {
     pub answer: Outcome,
     pub cursor: EntriesCursor,
@@ -180,7 +180,7 @@ fn go_to(cursor: EntriesCursor, bytes: &[u8], rows: &[u64], specs: &[u64], depth
     arrive(here, bytes, rows, specs)
 }
 
-// A cursor that every call refuses, whatever the bytes.
+// A cursor that every call that reads refuses, whatever the bytes.
 pub(crate) fn no_cursor(endian: RunTimeEndian) -> EntriesCursor
     ensures { λ r. ⌜ viewCursor r ≡ noCursor (entryLimit .most) endian ⌝ }
 {

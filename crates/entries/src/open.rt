@@ -40,7 +40,7 @@ pub enum UnitAt {
     Refused(Error),
 }
 
-// A header, and a cursor before its first entry; after a refusal one that every call refuses.
+// A header, and a cursor before its first entry; after a refusal one that every call that reads refuses.
 pub struct OpenedUnit {
     pub answer: UnitAt,
     pub cursor: EntriesCursor,
