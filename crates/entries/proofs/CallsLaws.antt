@@ -1,7 +1,7 @@
 -- A reading is what successive calls give.
 use mathlib.Core.Bool.{Bool, true, false, not, cond}
 use mathlib.Core.Path.{_≡_, refl, sym, ap, _∙_, subst}
-use mathlib.Core.List.{List, [], _∷_, _++_}
+use mathlib.Core.List.{List, [], _∷_}
 use mathlib.Core.Option.{Option, none, some}
 use Prim.Native.Nat.{ℕ, zero, suc, _+_, _^_, _≤_, _<_}
 use native.Mathlib.Omega.{arith}
@@ -26,11 +26,15 @@ use Rattle.entries.specs.Steps.{KeptRaw}
 use Rattle.entries.specs.declared.raw.EntriesRaw.{EntriesRaw}
 use Rattle.entries.proofs.FlatLaws.{Stands, nth-next}
 use Rattle.entries.proofs.RawLaws.{raw-kept, raw-keeps}
-use Rattle.entries.proofs.RunLaws.{behind, reading, reading-none, reading-item, reading-refused}
-use Rattle.entries.proofs.SeekLaws.{stands, item-kept}
+use Rattle.entries.proofs.RunLaws.{behind, next-kept, reading, reading-none, reading-item, reading-refused}
+use Rattle.entries.proofs.SeekLaws.{stands}
 
 abbrev pub as-reading : List Item → Option Stop → Reading
 as-reading l o = record { items = l; stop = o }
+
+-- what read_entry says of an item, and the state behind it
+abbrev pub itemGiven : Item → EntriesRaw → Taken
+itemGiven i w = record { answer = got (not (isNull (i .value))); entry = i .value; raw = w }
 
 module _ (most : ℕ) (s rows specs : List ℕ) where
   -- how a reading starts: with nothing where no byte is left, with a refusal, or with an item and what is read behind it
@@ -58,12 +62,6 @@ module _ (most : ℕ) (s rows specs : List ℕ) where
   opens : (w : EntriesRaw) {l : List Item} {o : Option Stop} → reading most s rows specs w ≡ as-reading l o → Opens w l o
   opens w e = subst (λ (r : Reading). Opens w (r .items) (r .stop)) e (reading-opens w)
 
-  -- the state behind an item that was read
-  next-kept : (w : EntriesRaw) (i : Item) → KeptRaw (length s) w → itemNext most s rows specs w ≡ got i → KeptRaw (length s) (movedTo w (i .next) (afterEntry (i .value)))
-  next-kept w i k e =
-      let z : Stands most (sourceOf w) s rows specs (w .position) (w .depth) i = rw e at (stands most s rows specs w) in
-      subst (λ (d : ℤ). KeptRaw (length s) (movedTo w (i .next) d)) (z .after) (item-kept most s rows specs w i k e)
-
   -- behind the first n items the state keeps the sizes, and the others are read from it
   pub record Behind (w : EntriesRaw) (l : List Item) (o : Option Stop) (n : ℕ) : Type 0 where
     pub kept : KeptRaw (length s) (afterItems w l n)
@@ -74,14 +72,10 @@ module _ (most : ℕ) (s rows specs : List ℕ) where
   after-items [] o (suc n) w k e = record { kept = k; others = e }
   after-items (i ∷ l) o (suc n) w k e =
       let a = opens w e in
-      let r = after-items l o n (movedTo w (i .next) (afterEntry (i .value))) (next-kept w i k (a .1)) (a .2) in
+      let r = after-items l o n (movedTo w (i .next) (afterEntry (i .value))) (next-kept most s rows specs w i k (a .1)) (a .2) in
       record { kept = r .kept; others = r .others }
 
   -- ---- the calls
-
-  -- what read_entry says of an item, and the state behind it
-  abbrev pub itemGiven : Item → EntriesRaw → Taken
-  itemGiven i w = record { answer = got (not (isNull (i .value))); entry = i .value; raw = w }
 
   module _ (w : EntriesRaw) (k : KeptRaw (length s) w) where
     item-given : (i : Item) → itemNext most s rows specs w ≡ got i → rawEntry most w s rows specs ≡ itemGiven i (movedTo w (i .next) (afterEntry (i .value)))

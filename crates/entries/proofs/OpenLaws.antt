@@ -1,6 +1,6 @@
 -- Laws of opened units.
 use mathlib.Core.Bool.{Bool, true, false, cond}
-use mathlib.Core.Path.{refl, sym, ap, _≡_, _∙_}
+use mathlib.Core.Path.{refl, ap, _≡_, _∙_}
 use mathlib.Core.List.{List}
 use Prim.Native.Nat.{ℕ, _/_, _≤_, _<_}
 use borrow.Author.Tests.{le-leb, lt-leb}

@@ -3,20 +3,20 @@ use mathlib.Core.Bool.{Bool, true, false, not, cond}
 use mathlib.Core.Path.{_≡_, refl, sym, ap, _∙_, subst}
 use mathlib.Core.List.{List, [], _∷_, _++_, append-assoc, append-nil}
 use mathlib.Core.Option.{Option, none, some}
-use Prim.Native.Nat.{ℕ, zero, suc, _+_, _-_, _*_, _/_, _≤_, _<_}
+use Prim.Native.Nat.{ℕ, zero, suc, _+_, _*_, _/_, _≤_, _<_}
 use native.Mathlib.Omega.{arith}
 use borrow.Author.Tests.{eqb-true, le-leb, lt-leb, lt-ltb, le-ltb}
-use lib.Dec.{eqb, leb, ltb}
+use lib.Dec.{ltb}
 use lib.IntN.{ℤ}
-use lib.ListN.{length, getD, take, drop, length-append, length-drop}
-use lib.Seq.{take-all, take-at, drop-append-add, drop-drop, append-snoc}
-use Rattle.reader.specs.Answer.{Answer, got, refused, ifSome, Read}
+use lib.ListN.{length, take, drop, length-append}
+use lib.Seq.{take-all, take-at, drop-append-add, drop-drop}
+use Rattle.reader.specs.Answer.{Answer, got, refused, ifSome}
 use Rattle.reader.specs.Errors.{numberOf}
 use Rattle.reader.specs.Twos.{word}
 use Rattle.reader.specs.declared.error.Error.{Error}
 use Rattle.entries.specs.Cursor.{itemNext}
-use Rattle.entries.specs.Entry.{Entry, isNull}
-use Rattle.entries.specs.Flat.{Item, placeAt, depthAt, Stop, Reading, nothing, before, readFrom, never, readingFrom, afterItems}
+use Rattle.entries.specs.Entry.{isNull}
+use Rattle.entries.specs.Flat.{Item, placeAt, depthAt, Stop, Reading, nothing, before, never, readingFrom, afterItems}
 use Rattle.entries.specs.Pass.{Passed, toldOf, told, itemWords, itemsWords, firstOf, withWords}
 use Rattle.entries.specs.Raw.{movedTo, sourceOf, Moved, rawEntry}
 use Rattle.entries.specs.Read.{afterEntry}
@@ -100,6 +100,12 @@ module _ (most : ℕ) (s rows specs : List ℕ) where
 
     pub reading-refused : {n : ℕ} → itemNext most s rows specs w ≡ refused n → reading w ≡ record { items = []; stop = some (record { number = n; at = w .position; depth = w .depth }) }
     reading-refused e = reading-step most (sourceOf w) s rows specs never (w .position) (w .depth) ∙ rw (lt-leb (length s) (w .position) h, e)
+
+  -- the state behind an item that was read keeps the sizes
+  pub next-kept : (w : EntriesRaw) (i : Item) → KeptRaw (length s) w → itemNext most s rows specs w ≡ got i → KeptRaw (length s) (movedTo w (i .next) (afterEntry (i .value)))
+  next-kept w i k e =
+      let z : Stands most (sourceOf w) s rows specs (w .position) (w .depth) i = rw e at (stands most s rows specs w) in
+      subst (λ (d : ℤ). KeptRaw (length s) (movedTo w (i .next) d)) (z .after) (item-kept most s rows specs w i k e)
 
   -- an item that was told
   pub record ItemTold (w : EntriesRaw) (x : Moved (Option Passed)) (o : Option Passed) : Type 0 where
@@ -222,11 +228,10 @@ module _ (most : ℕ) (s rows specs : List ℕ) where
         let n : length (done ++ (i ∷ [])) ≡ suc (length done) = length-append done (i ∷ []) ∙ omega arith in
         let moved : v ≡ movedTo w₀ (i .next) (afterEntry (i .value)) = ap (λ (u : EntriesRaw). movedTo u (i .next) (afterEntry (i .value))) (sym (t .raw-is [])) in
         let words : out' ≡ withWords (done ++ (i ∷ [])) lent = p ∙ ap (λ (y : List ℕ). take (count * 4) out ++ y ++ drop (count * 4 + 4) out) (sym (told-words w x o z)) ∙ next-words i in
-        let kept : KeptRaw (length s) v = subst (λ (d : ℤ). KeptRaw (length s) (movedTo w (i .next) d)) (z .at .after) (item-kept most s rows specs w i (t .kept) (z .read)) in
         subst (λ (y : EntriesRaw). Run w₀ lent y out' (count + 1)) (sym (z .raw-is))
         (record {
           items = done ++ (i ∷ []);
-          kept = kept;
+          kept = next-kept w i (t .kept) (z .read);
           count-is = omega (arith, n, t .count-is);
           inside = omega (arith, r);
           spent = omega (arith, t .spent, z .at .above);

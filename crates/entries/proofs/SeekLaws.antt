@@ -3,7 +3,7 @@ use mathlib.Core.Bool.{Bool, true, false, not, cond, _&&_}
 use mathlib.Core.Path.{_≡_, refl, sym, ap, _∙_}
 use mathlib.Core.List.{List}
 use mathlib.Core.Option.{Option, none, some}
-use Prim.Native.Nat.{ℕ, zero, suc, _+_, _-_, _≤_, _<_}
+use Prim.Native.Nat.{ℕ, _+_, _-_, _≤_, _<_}
 use native.Mathlib.Omega.{arith}
 use borrow.Author.Tests.{leb-true, leb-false, lt-leb, le-leb, ne-eqb}
 use lib.Dec.{eqb, leb}
@@ -12,6 +12,7 @@ use lib.ListN.{length}
 use Rattle.reader.specs.Answer.{Answer, got, refused, andThen, ifSome, Read, gives, Holds}
 use Rattle.reader.specs.Leb128.{ulebAt}
 use Rattle.reader.proofs.Answers.{holds-then}
+use Rattle.reader.proofs.Counts.{without-count}
 use Rattle.abbrev.specs.Lookup.{Found, lookup, declarationOf}
 use Rattle.abbrev.proofs.Lookups.{lookup-keeps}
 use Rattle.attribute.specs.Read.{attributesAt}
@@ -259,32 +260,18 @@ module _ (most : ℕ) (s rows specs : List ℕ) where
     abbrev first : Cursor → Called
     first c = on (from c) (c .entry .offset) (c .entry .depth)
 
-    further : (c : Cursor) (i : Read Entry) → next (from c) ≡ got i → c .input .position < i .next
+    further : (c : Cursor) (i : Read Entry) → next (from c) ≡ got i → (c .input .position < i .next) × (i .next ≤ length s)
     further c i e =
         let z : Stands most (sourceOf (from c)) s rows specs (from c .position) (from c .depth) i = rw e at (stands (from c)) in
-        omega (arith, z .above, forward c)
-
-    over : (c : Cursor) → length s ≤ c .input .position → length s ≤ from c .position
-    over c h = omega (arith, forward c)
-
-    -- enough is enough
-    same-within : (n m : ℕ) (c : Cursor) → length s ≤ n + c .input .position → length s ≤ m + c .input .position → within n c ≡ within m c
-    unfolding seekWithin
-    same-within zero zero c h k = refl
-    same-within zero (suc m) c h k = sym (ends-there (from c) (c .entry .offset) (c .entry .depth) wanted (within m) (over c (omega arith)))
-    same-within (suc n) zero c h k = ends-there (from c) (c .entry .offset) (c .entry .depth) wanted (within n) (over c (omega arith))
-    same-within (suc n) (suc m) c h k =
-        again-same (from c) (c .entry .offset) (c .entry .depth) wanted (within n) (within m)
-        (λ i e. same-within n m (taken (from c) i) (omega (arith, further c i e)) (omega (arith, further c i e)))
+        (omega (arith, z .above, forward c), z .within)
 
     -- the definition without its count
     pub seek-step : (c : Cursor) → sought c ≡ goOn wanted sought (first c)
     unfolding seek seekWithin
     seek-step c =
-        let n = length s - c .input .position in
-        same-within n (suc n) c (omega arith) (omega arith)
-        ∙ again-same (from c) (c .entry .offset) (c .entry .depth) wanted (within n) sought
-        (λ i e. same-within n (length s - i .next) (taken (from c) i) (omega (arith, further c i e)) (omega arith))
+        without-count (λ (c : Cursor). length s - c .input .position) (λ f c. goOn wanted f (first c)) within (λ n c. refl)
+        (λ f g c h. again-same (from c) (c .entry .offset) (c .entry .depth) wanted f g (λ i e. h (taken (from c) i) (omega (arith, further c i e .0, further c i e .1))))
+        (λ f c e. sym (ends-there (from c) (c .entry .offset) (c .entry .depth) wanted f (omega (arith, forward c)))) c
 
     -- ---- the loops: what is sought from one place is sought from the other
 
