@@ -8,3 +8,4 @@ pub mod Sample
 pub mod LevelLaws
 pub mod Real
 pub mod Demand
+pub mod Kept
