@@ -23,7 +23,7 @@ use Rattle.tree.proofs.Natural.{holds-self}
 use Rattle.tree.proofs.Agree.{cons-same, rooted, agree, Only21, All21, only-21}
 use Rattle.tree.proofs.Loop.{given, Rising, rising, Any, any, Sound, tree-good, left-sound, root-sound}
 use Rattle.tree.proofs.Children.{Deeper, heard, listed, Lists, children-listed}
-use Rattle.tree.proofs.Real.{jump-offered, realReads, real-fair, stateOf, reply, seen, Keeps, next-same, Begun, root-same, flat-same}
+use Rattle.tree.proofs.Real.{jump-offered, realReads, real-fair, stateOf, reply, seen, Keeps, next-same, Begun, RootLeft, root-left, root-same, flat-same}
 
 module _ (most : ℕ) (src : Source) (s rows specs : List ℕ) where
   abbrev R : Reads Entry
@@ -140,16 +140,18 @@ listed-whole zero l = refl
 listed-whole (suc n) [] = cons-same refl (listed-whole n [])
 listed-whole (suc n) (i ∷ l) = cons-same refl (listed-whole n l)
 
+-- what is said of an entry that was given
+pub said-entry : (a : Answer Bool) (i : Item Entry) (e : Entry) → said a (i .body) ≡ got (some e) → (reply a i ≡ entry i) × (i .body ≡ e)
+said-entry (got true) i e q = (refl, let z : i .body ≡ e = cc in z)
+said-entry (got false) i e q = absurd (let y : _≡_ {A = ℕ} 0 1 = cc in omega arith)
+said-entry (refused n) i e q = absurd (let y : _≡_ {A = ℕ} 0 1 = cc in omega arith)
+
 -- ---- calls
 
 module _ (most : ℕ) (s rows specs : List ℕ) where
   -- the tree that a list of calls leaves
   abbrev pub treeAfter : List ℤ → Tree → Tree
   treeAfter ks t = left (λ (k : ℤ) (u : Tree). (saidBy (nextOf most s rows specs k u), nextOf most s rows specs k u .tree)) ks t
-
-  after-snoc : (js : List ℤ) (k : ℤ) (t : Tree) → treeAfter (js ++ (k ∷ [])) t ≡ nextOf most s rows specs k (treeAfter js t) .tree
-  after-snoc [] k t = refl
-  after-snoc (j ∷ js) k t = after-snoc js k (nextOf most s rows specs j t .tree)
 
 module _ (most : ℕ) (src : Source) (s rows specs : List ℕ) where
   -- the same calls of the tree over the read
@@ -204,7 +206,8 @@ module _ (most : ℕ) (src : Source) (s rows specs : List ℕ) (t : Tree) (L : L
       subst All21 (sym (demand-3 most src s rows specs t L over sizes reading jumps .1 ks))
       (all-whole-21 (walkSays (walkItems most src s rows specs L) ks) (only-21 (realReads most src s rows specs) (real-fair most src s rows specs) (src .start) _ f jumps ks _ a))
 
-  home : RootThere most src s rows specs (rootOf most s rows specs t)
+  -- the root
+  pub home : RootThere most src s rows specs (rootOf most s rows specs t)
   home = begun most src s rows specs reading t (record { source = over; sizes = sizes })
 
   -- the root is no null
@@ -223,34 +226,6 @@ module _ (most : ℕ) (src : Source) (s rows specs : List ℕ) (t : Tree) (L : L
       (subst (λ (x : State Entry). x .held .null ≡ false → Deeper (x .held .depth) ks → Lists R (walkItems most src s rows specs L) ks x) (a .state)
       (children-listed R (real-fair most src s rows specs) (src .start) _ (flat-is most src s rows specs reading) jumps _ (home .state) js ks) n d)
 
-  -- what is said of an entry that was given
-  said-entry : (a : Answer Bool) (i : Item Entry) (e : Entry) → said a (i .body) ≡ got (some e) → (reply a i ≡ entry i) × (i .body ≡ e)
-  said-entry (got true) i e q = (refl, let z : i .body ≡ e = cc in z)
-  said-entry (got false) i e q = absurd (let y : _≡_ {A = ℕ} 0 1 = cc in omega arith)
-  said-entry (refused n) i e q = absurd (let y : _≡_ {A = ℕ} 0 1 = cc in omega arith)
-
-  -- from an answer: calls js, and then a call at k that gave the entry e
-  pub real-children-of-answer : (js : List ℤ) (k : ℤ) (e : Entry)
-      → saidBy (nextOf most s rows specs k (treeAfter most s rows specs js (rootOf most s rows specs t .tree))) ≡ got (some e)
-      → (ks : List ℤ) → Deeper (e .depth) ks
-      → ListsChildren most src s rows specs L ks e (nextOf most s rows specs k (treeAfter most s rows specs js (rootOf most s rows specs t .tree)) .tree)
-  real-children-of-answer js k e q ks d =
-      let R = realReads most src s rows specs in
-      let fair = real-fair most src s rows specs in
-      let u = treeAfter most s rows specs js (rootOf most s rows specs t .tree) in
-      let r = nextOf most s rows specs k u in
-      let i = stateOf (length s) (r .tree) .held in
-      let v = said-entry (r .answer) i e q in
-      let a = after most src s rows specs js (rootOf most s rows specs t .tree) (home .keeps) in
-      let z = next-same most src s rows specs k u (a .keeps) in
-      let S = subst (Holds _) (home .state) (root-sound R fair Any (any R) (src .start) tt) .0 in
-      let g = tree-good R fair Any (any R) k (stateOf (length s) u) (subst (Sound (R .fin) Any) (a .state) (left-sound R fair Any (any R) js _ S)) in
-      let n = g .holds i (ap (λ (x : Reply Entry × State Entry). x .0) (z .says) ∙ v .0) .1 in
-      let c = real-children (js ++ (k ∷ [])) ks in
-      subst (λ (e : Entry). Deeper (e .depth) ks → ListsChildren most src s rows specs L ks e (r .tree)) (v .1)
-      (subst (λ (u : Tree). isNull (u .cursor .entry) ≡ false → Deeper (u .cursor .entry .depth) ks → ListsChildren most src s rows specs L ks (u .cursor .entry) u) (after-snoc most s rows specs js k (rootOf most s rows specs t .tree)) c n)
-      d
-
 -- ---- whatever is read and whatever jumps are offered
 
 -- the offsets of some entries strictly rise: each is n or more and before the end, and beyond the one before
@@ -261,6 +236,10 @@ Rises fin n (e ∷ es) = (n ≤ e .offset) × (e .offset < fin) × Rises fin (su
 few : (fin n : ℕ) (es : List Entry) → Rises fin n es → length es ≤ fin - n
 few fin n [] r = omega arith
 few fin n (e ∷ es) (a, b, r) = let c = few fin (suc (e .offset)) es r in omega arith
+
+rises-later : (fin m n : ℕ) (es : List Entry) → m ≤ n → Rises fin n es → Rises fin m es
+rises-later fin m n [] h r = tt
+rises-later fin m n (e ∷ es) h r = (omega (arith, r .0), r .1, r .2)
 
 module _ (most : ℕ) (src : Source) (s rows specs : List ℕ) where
   rises-from : (ks : List ℤ) (t : Tree) (n : ℕ) → Keeps most src s (t .cursor)
@@ -286,7 +265,7 @@ module _ (most : ℕ) (src : Source) (s rows specs : List ℕ) where
           by (refused m) q = rec n q
 
   -- a state that keeps the sizes offers no jump back and none past the end
-  sound : (t : Tree) → Keeps most src s (t .cursor) → Sound (src .start + length s) Any (stateOf (length s) t)
+  pub sound : (t : Tree) → Keeps most src s (t .cursor) → Sound (src .start + length s) Any (stateOf (length s) t)
   sound t h =
       let w = t .cursor .input in
       let o = ap (λ (x : Source). x .start) (h .source) in
@@ -312,4 +291,26 @@ module _ (most : ℕ) (src : Source) (s rows specs : List ℕ) where
     pub entries-few : length (given (treeReplies most s rows specs ks t)) ≤ length s - t .cursor .input .position
     entries-few =
         let n = few (src .start + length s) (src .start + t .cursor .input .position) (given (treeReplies most s rows specs ks t)) entries-rise in
+        omega (arith, n)
+
+  module _ (t : Tree) (over : sourceOf (t .cursor .input) ≡ src) (sizes : keepsCursor most (length s) (t .cursor) ≡ true) (ks : List ℤ) where
+    -- the same from a root on, read or refused
+    pub said-rise : Rises (src .start + length s) (src .start) (given (saidBy (rootOf most s rows specs t) ∷ treeReplies most s rows specs ks (rootOf most s rows specs t .tree)))
+    said-rise = go (rootOf most s rows specs t) (root-left most src s rows specs t (record { source = over; sizes = sizes }))
+      where
+        go : (r : Answered) → RootLeft most src s rows specs r → Rises (src .start + length s) (src .start) (given (saidBy r ∷ treeReplies most s rows specs ks (r .tree)))
+        go r l = by (r .answer) refl (entries-rise (r .tree) (l .keeps .source) (l .keeps .sizes) ks)
+          where
+            by : (a : Answer Bool) → r .answer ≡ a → Rises (src .start + length s) (src .start + r .tree .cursor .input .position) (given (treeReplies most s rows specs ks (r .tree)))
+                → Rises (src .start + length s) (src .start) (given (said a (r .tree .cursor .entry) ∷ treeReplies most s rows specs ks (r .tree)))
+            by (got true) q z =
+                let f = l .first q in
+                let k = cursor-kept most (length s) (r .tree .cursor) (l .keeps .sizes) .0 in
+                (omega (arith, f .0), omega (arith, f .0, f .1, k .inside), rises-later _ _ _ (given (treeReplies most s rows specs ks (r .tree))) (omega (arith, f .0, f .1)) z)
+            by (got false) q z = rises-later _ _ _ (given (treeReplies most s rows specs ks (r .tree))) (omega arith) z
+            by (refused n) q z = rises-later _ _ _ (given (treeReplies most s rows specs ks (r .tree))) (omega arith) z
+
+    pub said-few : length (given (saidBy (rootOf most s rows specs t) ∷ treeReplies most s rows specs ks (rootOf most s rows specs t .tree))) ≤ length s
+    said-few =
+        let n = few (src .start + length s) (src .start) (given (saidBy (rootOf most s rows specs t) ∷ treeReplies most s rows specs ks (rootOf most s rows specs t .tree))) said-rise in
         omega (arith, n)

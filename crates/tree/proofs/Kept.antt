@@ -8,7 +8,7 @@ use lib.ListN.{length}
 use Rattle.entries.specs.Cursor.{keepsCursor}
 use Rattle.entries.specs.Raw.{sourceOf}
 use Rattle.tree.specs.Tree.{Tree, nextOf, rootOf}
-use Rattle.tree.proofs.Real.{next-same, root-keeps}
+use Rattle.tree.proofs.Real.{next-same, root-left}
 
 module _ (most : ℕ) (s rows specs : List ℕ) (t : Tree) (kept : keepsCursor most (length s) (t .cursor) ≡ true) where
   -- a level call, whatever it says
@@ -17,4 +17,4 @@ module _ (most : ℕ) (s rows specs : List ℕ) (t : Tree) (kept : keepsCursor m
 
   -- a root, read or refused
   pub root-kept : keepsCursor most (length s) (rootOf most s rows specs t .tree .cursor) ≡ true
-  root-kept = root-keeps most (sourceOf (t .cursor .input)) s rows specs t (record { source = refl; sizes = kept }) .sizes
+  root-kept = root-left most (sourceOf (t .cursor .input)) s rows specs t (record { source = refl; sizes = kept }) .keeps .sizes

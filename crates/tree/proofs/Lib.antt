@@ -9,3 +9,5 @@ pub mod LevelLaws
 pub mod Real
 pub mod Demand
 pub mod Kept
+pub mod Corollary
+pub mod Opened

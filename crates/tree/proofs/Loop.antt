@@ -270,7 +270,7 @@ module _ {X : Type 0} where
   Rising fin n [] = Unit {0}
   Rising fin n (e ∷ es) = (n ≤ e .at) × (e .at < fin) × Rising fin (suc (e .at)) es
 
-  weaker : (fin m n : ℕ) (l : List (Item X)) → m ≤ n → Rising fin n l → Rising fin m l
+  pub weaker : (fin m n : ℕ) (l : List (Item X)) → m ≤ n → Rising fin n l → Rising fin m l
   weaker fin m n [] p r = tt
   weaker fin m n (e ∷ l) p (a, b, r) = (omega arith, b, r)
 

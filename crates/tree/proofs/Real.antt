@@ -29,7 +29,7 @@ use Rattle.entries.proofs.PassLaws.{jumps-on}
 use Rattle.entries.proofs.CursorLaws.{cursor-kept}
 use Rattle.entries.proofs.RawLaws.{raw-keeps, found-keeps}
 use Rattle.tree.specs.Walk.{Item, Reply, entry, noMore, reached as answered, inRange}
-use Rattle.tree.specs.Tree.{Tree, Answered, rootBy, rooted, inTree, childOf, levelOf, nextOf, rootOf}
+use Rattle.tree.specs.Tree.{Tree, unrooted, Answered, refuses, rootBy, rooted, inTree, childOf, levelOf, nextOf, rootOf}
 use Rattle.tree.specs.Demand.{itemOf, closes, underRoot, rootReading, walkItems}
 use Rattle.tree.proofs.Program.{Reads, Fits, Fair, flat as flatOf, through, followed, State, hold, after, jumpBy, fetch, fetched, climb, tree, root}
 use Rattle.tree.proofs.Loop.{itemsFrom, items-is, loop, loop-is}
@@ -412,25 +412,37 @@ module _ (most : ℕ) (src : Source) (s rows specs : List ℕ) where
       let k : KeptRaw (length s) (rawAt 0 (pos 0)) = record { inside = omega arith; short = z .raw .short; near = omega arith } in
       rw (sized-keeps b p d e z .sizes, raw-keeps (length s) (rawAt 0 (pos 0)) k, q, n)
 
-  -- whatever stands at a root, the sizes are kept
-  pub root-keeps : (t : Tree) → Keeps most src s (t .cursor) → Keeps most src s (rootOf most s rows specs t .tree .cursor)
-  unfolding rootOf rawEntry
-  root-keeps t h = by-parts (λ t. Keeps most src s (rootOf most s rows specs t .tree .cursor)) go t h
-    where
-      start : KeptRaw (length s) (rawAt 0 (pos 0)) → Keeps most src s (newCursor most (rawAt 0 (pos 0)))
-      start k = sized-keeps false 0 (pos 0) (nullEntry most 0 (pos 0)) (record { raw = k; near = omega arith; few = omega arith })
+  -- whatever stands at a root, the sizes are kept; an entry that is given stands where the bytes start
+  pub record RootLeft (r : Answered) : Type 0 where
+    pub keeps : Keeps most src s (r .tree .cursor)
+    pub first : r .answer ≡ got true → (r .tree .cursor .entry .offset ≡ src .start) × (0 < r .tree .cursor .input .position)
 
-      by-null : (b : Bool) (i : flat.Item) → Keeps most src s (newCursor most (rawAt 0 (pos 0))) → Sized (i .next) (pastCode 0 (pos 0)) (i .value)
-          → Keeps most src s (rootBy most (rawAt 0 (pos 0)) (got (not b)) (record { answer = got (not b); entry = i .value; raw = rawAt (i .next) (pastCode 0 (pos 0)) }) .tree .cursor)
-      by-null true i k z = k
-      by-null false i k z = sized-keeps true (i .next) (pastCode 0 (pos 0)) (i .value) z
+  pub root-left : (t : Tree) → Keeps most src s (t .cursor) → RootLeft (rootOf most s rows specs t)
+  unfolding rootOf rawEntry
+  root-left t h = by-parts (λ t. RootLeft (rootOf most s rows specs t)) go t h
+    where
+      failed : (n : ℕ) → KeptRaw (length s) (rawAt 0 (pos 0)) → RootLeft (refuses n (unrooted (newCursor most (rawAt 0 (pos 0)))))
+      failed n k =
+          record {
+            keeps = sized-keeps false 0 (pos 0) (nullEntry most 0 (pos 0)) (record { raw = k; near = omega arith; few = omega arith });
+            first = λ q. absurd (let y : _≡_ {A = ℕ} 0 1 = cc in omega arith);
+          }
+
+      by-null : (b : Bool) (i : flat.Item) → KeptRaw (length s) (rawAt 0 (pos 0)) → Stands most src s rows specs 0 (pos 0) i
+          → RootLeft (rootBy most (rawAt 0 (pos 0)) (got (not b)) (record { answer = got (not b); entry = i .value; raw = rawAt (i .next) (pastCode 0 (pos 0)) }))
+      by-null true i k x = failed 20 k
+      by-null false i k x =
+          record {
+            keeps = sized-keeps true (i .next) (pastCode 0 (pos 0)) (i .value) (item-sized 0 (pos 0) i k x);
+            first = λ _. (omega (arith, x .offset), x .above);
+          }
 
       by-item : (r : Answer (Read Entry)) → KeptRaw (length s) (rawAt 0 (pos 0)) → Holds (Stands most src s rows specs 0 (pos 0)) r
-          → Keeps most src s (rooted most (rawAt 0 (pos 0)) (taken most (rawAt 0 (pos 0)) (pastCode 0 (pos 0)) r) .tree .cursor)
-      by-item (got i) k x = by-null (isNull (i .value)) i (start k) (item-sized 0 (pos 0) i k x)
-      by-item (refused n) k x = start k
+          → RootLeft (rooted most (rawAt 0 (pos 0)) (taken most (rawAt 0 (pos 0)) (pastCode 0 (pos 0)) r))
+      by-item (got i) k x = by-null (isNull (i .value)) i k x
+      by-item (refused n) k x = failed n k
 
-      go : (b : Bool) (p : ℕ) (d : ℤ) (e : Entry) → Sized p d e → Keeps most src s (rootOf most s rows specs (treeAt b p d e) .tree .cursor)
+      go : (b : Bool) (p : ℕ) (d : ℤ) (e : Entry) → Sized p d e → RootLeft (rootOf most s rows specs (treeAt b p d e))
       go b p d e z =
           let k : KeptRaw (length s) (rawAt 0 (pos 0)) = record { inside = omega arith; short = z .raw .short; near = omega arith } in
           rw (sized-keeps b p d e z .sizes, raw-keeps (length s) (rawAt 0 (pos 0)) k) (by-item (entryAt most src s rows specs 0 (pos 0)) k (entry-stands most src s rows specs 0 (pos 0)))
