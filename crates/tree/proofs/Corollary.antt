@@ -21,7 +21,7 @@ use Rattle.entries.specs.Read.{Source, afterEntry, entryAt, sameDepth}
 use Rattle.entries.proofs.FlatLaws.{Stands, entry-stands, Chain, items-chain}
 use Rattle.tree.specs.Walk.{Item, under, entriesAt, childrenOf, Jumps, Reply, replies}
 use Rattle.tree.specs.Tree.{Tree, nextOf, rootOf}
-use Rattle.tree.specs.Demand.{itemOf, closes, underRoot, rootReading, walkItems, saidBy, treeReplies}
+use Rattle.tree.specs.Demand.{itemOf, closes, underRoot, rootReading, walkItems, saidBy, treeReplies, treeWalk}
 use Rattle.tree.proofs.Program.{State}
 use Rattle.tree.proofs.Agree.{cons-same}
 use Rattle.tree.proofs.Loop.{Rising, weaker, Any, any, tree-good}
@@ -32,7 +32,7 @@ use Rattle.tree.proofs.Demand.{bodies, said-entry, treeAfter, ListsChil
 -- ---- what is claimed
 
 module _ {A : Type 0} where
-  -- the last of some answers, of which a is the first
+  -- the last of some, or a where there are none
   abbrev pub lastOf : A → List A → A
   lastOf a [] = a
   lastOf a (b ∷ l) = lastOf b l
@@ -240,7 +240,7 @@ module _ (most : ℕ) (src : Source) (s rows specs : List ℕ) (t : Tree) (L : L
     (reading : rootReading most src s rows specs ≡ got L) (jumps : Jumps (walkItems most src s rows specs L)) where
   -- after the root and any calls js, the last of which gave the entry e (where there are none: the root), only levels deeper than e being asked
   pub children-given : (js : List ℤ) (e : Entry)
-      → lastOf (saidBy (rootOf most s rows specs t)) (treeReplies most s rows specs js (rootOf most s rows specs t .tree)) ≡ got (some e)
+      → lastOf (got none) (treeWalk most s rows specs js t) ≡ got (some e)
       → (ks : List ℤ) → Deeper (e .depth) ks
       → ChildrenGiven most src s rows specs L e ks (treeAfter most s rows specs js (rootOf most s rows specs t .tree))
   children-given js e q ks d =

@@ -17,7 +17,7 @@ use Rattle.entries.specs.Read.{Source, sameDepth}
 use Rattle.entries.proofs.CursorLaws.{cursor-kept}
 use Rattle.tree.specs.Walk.{Item, childrenOf, Jumps, Reply, entry, replies, walkSays}
 use Rattle.tree.specs.Tree.{Tree, Answered, nextOf, rootOf}
-use Rattle.tree.specs.Demand.{rootReading, walkItems, said, saidBy, treeReplies, whole}
+use Rattle.tree.specs.Demand.{rootReading, walkItems, said, saidBy, treeReplies, treeWalk, whole}
 use Rattle.tree.proofs.Program.{Reads, Fair, flat as flatOf, State, hold, tree, root, treeSays, left}
 use Rattle.tree.proofs.Natural.{holds-self}
 use Rattle.tree.proofs.Agree.{cons-same, rooted, agree, Only21, All21, only-21}
@@ -49,7 +49,7 @@ module _ (most : ℕ) (src : Source) (s rows specs : List ℕ) where
 
   -- from a root, whatever its jumps
   pub says-real : (t : Tree) → Keeps most src s (t .cursor) → (ks : List ℤ)
-      → Holds (λ rs. saidBy (rootOf most s rows specs t) ∷ treeReplies most s rows specs ks (rootOf most s rows specs t .tree) ≡ map whole rs) (treeSays R (src .start) ks)
+      → Holds (λ rs. treeWalk most s rows specs ks t ≡ map whole rs) (treeSays R (src .start) ks)
   unfolding treeSays
   says-real t h ks =
       let r = rootOf most s rows specs t in
@@ -100,13 +100,13 @@ pub demand-3 : (most : ℕ) (src : Source) (s rows specs : List ℕ) (t : Tree) 
     → Jumps (walkItems most src s rows specs L)
     → (rootOf most s rows specs t .answer ≡ got true)
     × ((ks : List ℤ)
-    → saidBy (rootOf most s rows specs t) ∷ treeReplies most s rows specs ks (rootOf most s rows specs t .tree)
+    → treeWalk most s rows specs ks t
     ≡ map whole (walkSays (walkItems most src s rows specs L) ks))
 demand-3 most src s rows specs t L o z e j =
     let h : Keeps most src s (t .cursor) = record { source = o; sizes = z } in (
       begun most src s rows specs e t h .answer,
       λ ks.
-          subst (Holds (λ rs. saidBy (rootOf most s rows specs t) ∷ treeReplies most s rows specs ks (rootOf most s rows specs t .tree) ≡ map whole rs))
+          subst (Holds (λ rs. treeWalk most s rows specs ks t ≡ map whole rs))
           (agree (realReads most src s rows specs) (real-fair most src s rows specs) (src .start) _ (flat-is most src s rows specs e) j ks)
           (says-real most src s rows specs t h ks),
     )
@@ -199,7 +199,7 @@ module _ (most : ℕ) (src : Source) (s rows specs : List ℕ) (t : Tree) (L : L
     (over : sourceOf (t .cursor .input) ≡ src) (sizes : keepsCursor most (length s) (t .cursor) ≡ true)
     (reading : rootReading most src s rows specs ≡ got L) (jumps : Jumps (walkItems most src s rows specs L)) where
   -- no call refuses but with 21
-  pub real-only-21 : (ks : List ℤ) → All21 (saidBy (rootOf most s rows specs t) ∷ treeReplies most s rows specs ks (rootOf most s rows specs t .tree))
+  pub real-only-21 : (ks : List ℤ) → All21 (treeWalk most s rows specs ks t)
   real-only-21 ks =
       let f = flat-is most src s rows specs reading in
       let a = agree (realReads most src s rows specs) (real-fair most src s rows specs) (src .start) _ f jumps ks in
@@ -295,7 +295,7 @@ module _ (most : ℕ) (src : Source) (s rows specs : List ℕ) where
 
   module _ (t : Tree) (over : sourceOf (t .cursor .input) ≡ src) (sizes : keepsCursor most (length s) (t .cursor) ≡ true) (ks : List ℤ) where
     -- the same from a root on, read or refused
-    pub said-rise : Rises (src .start + length s) (src .start) (given (saidBy (rootOf most s rows specs t) ∷ treeReplies most s rows specs ks (rootOf most s rows specs t .tree)))
+    pub said-rise : Rises (src .start + length s) (src .start) (given (treeWalk most s rows specs ks t))
     said-rise = go (rootOf most s rows specs t) (root-left most src s rows specs t (record { source = over; sizes = sizes }))
       where
         go : (r : Answered) → RootLeft most src s rows specs r → Rises (src .start + length s) (src .start) (given (saidBy r ∷ treeReplies most s rows specs ks (r .tree)))
@@ -310,7 +310,7 @@ module _ (most : ℕ) (src : Source) (s rows specs : List ℕ) where
             by (got false) q z = rises-later _ _ _ (given (treeReplies most s rows specs ks (r .tree))) (omega arith) z
             by (refused n) q z = rises-later _ _ _ (given (treeReplies most s rows specs ks (r .tree))) (omega arith) z
 
-    pub said-few : length (given (saidBy (rootOf most s rows specs t) ∷ treeReplies most s rows specs ks (rootOf most s rows specs t .tree))) ≤ length s
+    pub said-few : length (given (treeWalk most s rows specs ks t)) ≤ length s
     said-few =
-        let n = few (src .start + length s) (src .start) (given (saidBy (rootOf most s rows specs t) ∷ treeReplies most s rows specs ks (rootOf most s rows specs t .tree))) said-rise in
+        let n = few (src .start + length s) (src .start) (given (treeWalk most s rows specs ks t)) said-rise in
         omega (arith, n)

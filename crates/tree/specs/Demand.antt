@@ -9,7 +9,7 @@ use Rattle.reader.specs.Answer.{Answer, got, refused, andThen}
 use Rattle.entries.specs.Entry.{Entry, isNull, jumpOf}
 use Rattle.entries.specs.Flat as flat
 use Rattle.entries.specs.Read.{Source, entryAt, sameDepth}
-use Rattle.tree.specs.Tree.{Tree, Answered, nextOf}
+use Rattle.tree.specs.Tree.{Tree, Answered, nextOf, rootOf}
 use Rattle.tree.specs.Walk.{Item, Reply, replies}
 
 -- ---- a root's flat reading
@@ -61,6 +61,11 @@ saidBy r = said (r .answer) (r .tree .cursor .entry)
 abbrev pub treeReplies : ℕ → List ℕ → List ℕ → List ℕ → List ℤ → Tree → List (Answer (Option Entry))
 treeReplies most s rows specs ks t =
     replies (λ (k : ℤ) (u : Tree). (saidBy (nextOf most s rows specs k u), nextOf most s rows specs k u .tree)) ks t
+
+-- 01: "A tree walk is one successful root, then any list of level calls": what the root and the calls say
+abbrev pub treeWalk : ℕ → List ℕ → List ℕ → List ℕ → List ℤ → Tree → List (Answer (Option Entry))
+treeWalk most s rows specs ks t =
+    saidBy (rootOf most s rows specs t) ∷ treeReplies most s rows specs ks (rootOf most s rows specs t .tree)
 
 -- an answer of the walk: the entry whole
 abbrev pub whole : Reply Entry → Answer (Option Entry)
