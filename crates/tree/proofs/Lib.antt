@@ -11,3 +11,4 @@ pub mod Demand
 pub mod Kept
 pub mod Corollary
 pub mod Opened
+pub mod Supposed
