@@ -3,14 +3,13 @@ use mathlib.Core.Path.{_≡_, refl, sym, _∙_, ap, subst}
 use mathlib.Core.Bool.{Bool, true, false, not, _&&_, cond}
 use mathlib.Core.Option.{Option, none, some}
 use mathlib.Core.List.{List, [], _∷_, _++_, map, List·Memᴰ, List·Memᴰ·head, List·Memᴰ·tail}
-use Prim.Native.Nat.{ℕ, zero, suc, _+_, _-_, _≤_, _<_}
+use Prim.Native.Nat.{ℕ, zero, suc, _+_, _-_, _≤_}
 use native.Mathlib.Omega.{arith}
 use borrow.Author.Tests.{eqb-true}
-use lib.Dec.{eqb}
 use lib.IntN.{ℤ, pos, negsuc, sucℤ}
 use lib.ListN.{length, replicate}
 use lib.Signed.{ltZ}
-use Rattle.reader.specs.Answer.{Answer, got, refused, andThen, Holds}
+use Rattle.reader.specs.Answer.{Answer, got, refused, Holds}
 use Rattle.reader.proofs.Answers.{holds-then, holds-map, cond-by}
 use Rattle.attribute.proofs.FormLaws.{both}
 use Rattle.entries.specs.Cursor.{keepsCursor}
@@ -21,7 +20,7 @@ use Rattle.entries.specs.Read.{Source, afterEntry, entryAt, sameDepth}
 use Rattle.entries.proofs.FlatLaws.{Stands, entry-stands, Chain, items-chain}
 use Rattle.tree.specs.Walk.{Item, under, entriesAt, childrenOf, Jumps, Reply, replies}
 use Rattle.tree.specs.Tree.{Tree, nextOf, rootOf}
-use Rattle.tree.specs.Demand.{itemOf, closes, underRoot, rootReading, walkItems, saidBy, treeReplies, treeWalk}
+use Rattle.tree.specs.Demand.{closes, underRoot, rootReading, walkItems, saidBy, treeReplies, treeWalk}
 use Rattle.tree.proofs.Program.{State}
 use Rattle.tree.proofs.Agree.{cons-same}
 use Rattle.tree.proofs.Loop.{Rising, weaker, Any, any, tree-good}

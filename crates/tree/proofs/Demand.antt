@@ -21,7 +21,7 @@ use Rattle.tree.specs.Demand.{rootReading, walkItems, said, saidBy, tree
 use Rattle.tree.proofs.Program.{Reads, Fair, flat as flatOf, State, hold, tree, root, treeSays, left}
 use Rattle.tree.proofs.Natural.{holds-self}
 use Rattle.tree.proofs.Agree.{cons-same, rooted, agree, Only21, All21, only-21}
-use Rattle.tree.proofs.Loop.{given, Rising, rising, Any, any, Sound, tree-good, left-sound, root-sound}
+use Rattle.tree.proofs.Loop.{given, Rising, rising, Any, Sound}
 use Rattle.tree.proofs.Children.{Deeper, heard, listed, Lists, children-listed}
 use Rattle.tree.proofs.Real.{jump-offered, realReads, real-fair, stateOf, reply, seen, Keeps, next-same, Begun, RootLeft, root-left, root-same, flat-same}
 

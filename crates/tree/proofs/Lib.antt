@@ -12,3 +12,4 @@ pub mod Kept
 pub mod Corollary
 pub mod Opened
 pub mod Supposed
+pub mod Made

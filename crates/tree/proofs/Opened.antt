@@ -1,7 +1,7 @@
 -- A tree opened by a unit's header.
-use mathlib.Core.Path.{_≡_, refl, sym, _∙_, ap, subst}
-use mathlib.Core.Bool.{Bool, true, false, cond, _&&_}
-use mathlib.Core.List.{List, [], _∷_, map}
+use mathlib.Core.Path.{_≡_, refl, _∙_, ap, subst}
+use mathlib.Core.Bool.{true, _&&_}
+use mathlib.Core.List.{List, map}
 use mathlib.Core.Option.{none, some}
 use Prim.Native.Nat.{ℕ, _+_, _^_, _≤_}
 use native.Mathlib.Omega.{arith}
@@ -15,7 +15,7 @@ use Rattle.reader.proofs.Answers.{cond-by}
 use Rattle.unit.specs.Header.{inBounds, unitEnd}
 use Rattle.unit.specs.Range.{part, rangeFrom}
 use Rattle.unit.specs.declared.header.UnitHeader.{UnitHeader}
-use Rattle.entries.specs.Cursor.{Cursor, newCursor, keepsCursor, openedCursor, orNoCursor}
+use Rattle.entries.specs.Cursor.{newCursor, keepsCursor, openedCursor, orNoCursor}
 use Rattle.entries.specs.Entry.{Entry}
 use Rattle.entries.specs.Flat as flat
 use Rattle.entries.specs.Open.{cursorFrom}
@@ -24,7 +24,7 @@ use Rattle.entries.specs.Read.{Source}
 use Rattle.entries.specs.declared.raw.EntriesRaw.{EntriesRaw}
 use Rattle.entries.proofs.RawLaws.{raw-keeps}
 use Rattle.tree.specs.Walk.{Jumps, walkSays}
-use Rattle.tree.specs.Tree.{Tree, OpenedTree, treeOver, nextOf, rootOf}
+use Rattle.tree.specs.Tree.{Tree, OpenedTree, treeOver, rootOf}
 use Rattle.tree.specs.Demand.{rootReading, walkItems, treeWalk, whole}
 use Rattle.tree.proofs.Agree.{All21}
 use Rattle.tree.proofs.Loop.{given}

@@ -3,6 +3,7 @@ use mathlib.Core.Path.{_≡_, refl, sym, _∙_, ap, subst}
 use mathlib.Core.Bool.{Bool, true, false, not, _&&_, cond}
 use mathlib.Core.Option.{Option, none, some, Option·none-ne-some}
 use mathlib.Core.List.{List, [], _∷_}
+use mathlib.Core.Logic.{_⊎_, inl, inr}
 use Prim.Native.Nat.{ℕ, zero, suc, _+_, _-_, _≤_, _<_}
 use native.Mathlib.Omega.{arith}
 use borrow.Author.Tests.{leb-true, leb-false, le-leb, eq-eqb, ne-eqb}
@@ -412,40 +413,43 @@ module _ (most : ℕ) (src : Source) (s rows specs : List ℕ) where
       let k : KeptRaw (length s) (rawAt 0 (pos 0)) = record { inside = omega arith; short = z .raw .short; near = omega arith } in
       rw (sized-keeps b p d e z .sizes, raw-keeps (length s) (rawAt 0 (pos 0)) k, q, n)
 
-  -- whatever stands at a root, the sizes are kept; an entry that is given stands where the bytes start
+  -- whatever stands at a root, the sizes are kept; an entry that is given stands where the bytes start; a refusal is 20 or that of the reading
   pub record RootLeft (r : Answered) : Type 0 where
     pub keeps : Keeps most src s (r .tree .cursor)
     pub first : r .answer ≡ got true → (r .tree .cursor .entry .offset ≡ src .start) × (0 < r .tree .cursor .input .position)
+    pub refusal : (n : ℕ) → r .answer ≡ refused n → (n ≡ 20) ⊎ (entryAt most src s rows specs 0 (pos 0) ≡ refused n)
 
   pub root-left : (t : Tree) → Keeps most src s (t .cursor) → RootLeft (rootOf most s rows specs t)
   unfolding rootOf rawEntry
   root-left t h = by-parts (λ t. RootLeft (rootOf most s rows specs t)) go t h
     where
-      failed : (n : ℕ) → KeptRaw (length s) (rawAt 0 (pos 0)) → RootLeft (refuses n (unrooted (newCursor most (rawAt 0 (pos 0)))))
-      failed n k =
+      failed : (n : ℕ) → KeptRaw (length s) (rawAt 0 (pos 0)) → (n ≡ 20) ⊎ (entryAt most src s rows specs 0 (pos 0) ≡ refused n) → RootLeft (refuses n (unrooted (newCursor most (rawAt 0 (pos 0)))))
+      failed n k w =
           record {
             keeps = sized-keeps false 0 (pos 0) (nullEntry most 0 (pos 0)) (record { raw = k; near = omega arith; few = omega arith });
             first = λ q. absurd (let y : _≡_ {A = ℕ} 0 1 = cc in omega arith);
+            refusal = λ m q. let z : n ≡ m = cc in subst (λ (m : ℕ). (m ≡ 20) ⊎ (entryAt most src s rows specs 0 (pos 0) ≡ refused m)) z w;
           }
 
       by-null : (b : Bool) (i : flat.Item) → KeptRaw (length s) (rawAt 0 (pos 0)) → Stands most src s rows specs 0 (pos 0) i
           → RootLeft (rootBy most (rawAt 0 (pos 0)) (got (not b)) (record { answer = got (not b); entry = i .value; raw = rawAt (i .next) (pastCode 0 (pos 0)) }))
-      by-null true i k x = failed 20 k
+      by-null true i k x = failed 20 k (inl refl)
       by-null false i k x =
           record {
             keeps = sized-keeps true (i .next) (pastCode 0 (pos 0)) (i .value) (item-sized 0 (pos 0) i k x);
             first = λ _. (omega (arith, x .offset), x .above);
+            refusal = λ m q. absurd (let y : _≡_ {A = ℕ} 0 1 = cc in omega arith);
           }
 
-      by-item : (r : Answer (Read Entry)) → KeptRaw (length s) (rawAt 0 (pos 0)) → Holds (Stands most src s rows specs 0 (pos 0)) r
+      by-item : (r : Answer (Read Entry)) → entryAt most src s rows specs 0 (pos 0) ≡ r → KeptRaw (length s) (rawAt 0 (pos 0)) → Holds (Stands most src s rows specs 0 (pos 0)) r
           → RootLeft (rooted most (rawAt 0 (pos 0)) (taken most (rawAt 0 (pos 0)) (pastCode 0 (pos 0)) r))
-      by-item (got i) k x = by-null (isNull (i .value)) i k x
-      by-item (refused n) k x = failed n k
+      by-item (got i) e k x = by-null (isNull (i .value)) i k x
+      by-item (refused n) e k x = failed n k (inr e)
 
       go : (b : Bool) (p : ℕ) (d : ℤ) (e : Entry) → Sized p d e → RootLeft (rootOf most s rows specs (treeAt b p d e))
       go b p d e z =
           let k : KeptRaw (length s) (rawAt 0 (pos 0)) = record { inside = omega arith; short = z .raw .short; near = omega arith } in
-          rw (sized-keeps b p d e z .sizes, raw-keeps (length s) (rawAt 0 (pos 0)) k) (by-item (entryAt most src s rows specs 0 (pos 0)) k (entry-stands most src s rows specs 0 (pos 0)))
+          rw (sized-keeps b p d e z .sizes, raw-keeps (length s) (rawAt 0 (pos 0)) k) (by-item (entryAt most src s rows specs 0 (pos 0)) refl k (entry-stands most src s rows specs 0 (pos 0)))
 
   first-item : itemAt most src s rows specs (src .start) (pos 0) ≡ andThen (entryAt most src s rows specs 0 (pos 0)) (λ i. got (itemOf src (length s) i))
   first-item =
