@@ -9,3 +9,4 @@ pub mod RunLaws
 pub mod CallsLaws
 pub mod CursorLaws
 pub mod OpenLaws
+pub mod SkipLaws
