@@ -10,3 +10,4 @@ pub mod CallsLaws
 pub mod CursorLaws
 pub mod OpenLaws
 pub mod SkipLaws
+pub mod KeepLaws

@@ -16,7 +16,6 @@ use Rattle.attribute.proofs.ListLaws.{read-skip}
 use Rattle.entries.specs.Entry.{Entry, nullEntry}
 use Rattle.entries.specs.Raw.{keepsRaw, movedTo, judged, moves, sourceOf, Moved, Taken, taken, refusedEntry, Listed, listed, listedIn, skipped, rawAbbreviation, rawEntry, rawAttributes, rawSkip}
 use Rattle.entries.specs.Read.{abbreviationAt, depthAfter, entryAfter, entryAt}
-use Rattle.entries.specs.Steps.{KeptRaw}
 use Rattle.entries.specs.declared.raw.EntriesRaw.{EntriesRaw}
 use Rattle.entries.proofs.RawLaws.{raw-kept, raw-keeps, abbreviation-in, entry-read, entry-refused}
 use Rattle.entries.proofs.SeekLaws.{code-near}
