@@ -16,6 +16,7 @@ use Rattle.attribute.proofs.ListLaws.{read-skip}
 use Rattle.entries.specs.Entry.{Entry, nullEntry}
 use Rattle.entries.specs.Raw.{keepsRaw, movedTo, judged, moves, sourceOf, Moved, Taken, taken, refusedEntry, Listed, listed, listedIn, skipped, rawAbbreviation, rawEntry, rawAttributes, rawSkip}
 use Rattle.entries.specs.Read.{abbreviationAt, depthAfter, entryAfter, entryAt}
+use Rattle.entries.specs.Steps.{KeptRaw}
 use Rattle.entries.specs.declared.raw.EntriesRaw.{EntriesRaw}
 use Rattle.entries.proofs.RawLaws.{raw-kept, raw-keeps, abbreviation-in, entry-read, entry-refused}
 use Rattle.entries.proofs.SeekLaws.{code-near}
@@ -64,6 +65,9 @@ module _ (most : ℕ) (w : EntriesRaw) (s rows specs : List ℕ) where
           record { kept = k; next = v .next; read = q ∙ ap (λ (x : Option Found). gives x (v .next)) z; left = rw (k, q) (ap (λ (x : Option Found). movedTo w (v .next) (depthAfter (gives x (v .next)) (w .depth))) z) }
       go true (refused n) k q e = got-refused (sym e)
       go false r k q e = got-refused (sym e)
+
+  pub code-kept : {o : Option Found} → rawAbbreviation most w s rows specs .answer ≡ got o → KeptRaw (length s) w
+  code-kept h = raw-kept (length s) w (code-read h .kept)
 
   -- the state behind it
   abbrev behind : {o : Option Found} → Code o → EntriesRaw

@@ -4,3 +4,5 @@ pub mod ByRows
 pub mod ByFound
 pub mod OnLocal
 pub mod RefusalLaws
+pub mod SkipLaws
+pub mod KeepLaws

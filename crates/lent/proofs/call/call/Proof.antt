@@ -1,3 +1,4 @@
+use native.Mathlib.Omega.{arith}
 use borrow.Author.Needs.{needs}
 use borrow.Author.Tests.{eq-eqb, ne-eqb}
 use Rattle.lent.proofs.call.call.Statement.{statement}
@@ -9,10 +10,10 @@ call-spec =
     (tie.spec
     (λ c κs. search needs)
     -- returns
-    (λ c. rw (eq-eqb _ _ (c .before .if1 .taken)) (c .read-entry .ensures))
+    (λ c. rw (ne-eqb (c .before .before .before .before .before .args .op) 1 (λ z. omega (arith, z, c .before .if1 .taken))) (c .read-entry .ensures))
     (λ c κs. search needs)
     -- returns-2
-    (λ c. rw (ne-eqb _ _ (c .before .before .if1 .left), eq-eqb _ _ (c .before .if2 .taken)) (c .skip-entry .ensures))
+    (λ c. rw (eq-eqb _ _ (c .before .if2 .taken)) (c .skip-entry .ensures))
     (λ c κs. search needs)
     -- returns-3
-    (λ c. rw (ne-eqb _ _ (c .before .before .if1 .left), ne-eqb _ _ (c .before .if2 .left)) (c .list-entry .ensures)))
+    (λ c. rw (ne-eqb _ _ (c .before .if2 .left)) (c .list-entry .ensures)))

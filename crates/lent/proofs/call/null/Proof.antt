@@ -1,8 +1,20 @@
-use mathlib.Core.Path.{refl}
-use Rattle.entries.proofs.RawLaws.{same-taken}
+use mathlib.Core.Path.{_≡_, ap}
+use mir.Syntax.{w64}
+use mir.Val.{toZ, ofZ}
+use native.Mathlib.Omega.{arith}
+use Rattle.entries.specs.Entry.{Entry}
 use borrow.Author.Needs.{needs}
 use Rattle.lent.proofs.call.null.Statement.{statement}
 use Rattle.lent.proofs.call.null.Tie as tie
 
 pub null-spec : {M : Type 1} → statement M
-null-spec = tie.close (tie.spec (λ c κs. search needs) (λ c. same-taken _ (c .null .ensures) refl))
+null-spec =
+    tie.close
+    (tie.spec
+    (λ c κs. search needs)
+    -- add-offset
+    (λ c. omega arith)
+    -- returns
+    (λ c.
+    let e : toZ w64 (ofZ w64 (c .before .before .before .before .args .given .depth)) ≡ c .before .before .before .before .args .given .depth = search needs in
+    rw (e, ap (λ (x : Entry). x .attrs) (c .before .before .before .null .ensures))))

@@ -1,4 +1,7 @@
+use mathlib.Core.Path.{ap}
+use Rattle.entries.specs.Views.{viewCoded}
 use Rattle.lent.specs.Calls.{skippedCall}
+use Rattle.lent.proofs.SkipLaws.{turn-place}
 use borrow.Author.Needs.{needs}
 use Rattle.lent.proofs.call.skip_entry.Statement.{statement}
 use Rattle.lent.proofs.call.skip_entry.Tie as tie
@@ -10,9 +13,11 @@ skip-entry-spec =
     (tie.spec
     (λ c κs. search needs)
     (λ c. search needs)
-    (λ c κs. search needs)
+    -- skip-requires
+    (λ c κs. turn-place _ _ _ _ _ (c .before .before .before .before .read-abbreviation .ensures) (ap viewCoded (c .before .answer .given .1)))
     (λ c. search needs)
-    (λ c κs. search needs)
+    -- null-requires
+    (λ c κs. turn-place _ _ _ _ _ (c .before .before .before .read-abbreviation .ensures) (ap viewCoded (c .enum-told .given .1)))
     (λ c. search needs)
     (λ c κs. search needs)
     -- returns
