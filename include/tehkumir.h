@@ -93,7 +93,7 @@ uint64_t tehkumir_read_attribute(const uint8_t *bytes, size_t len, size_t start,
 
 /* A raw reader, and calls on it: 0 is read_entry, any other number read_abbreviation and skip_attributes. For each call:
  * status, 1 for an entry, place and depth of the next item; then ENTRY, or tag, children and count of the entry passed. A
- * refusal keeps the state; where skip_attributes refuses, that is the state after the code. */
+ * refusal keeps the state that the call was given: its number, 0, that place and depth, and zeros. */
 uint64_t tehkumir_raw(const uint8_t *bytes, size_t len, size_t start, uint16_t version, bool is_64, uint8_t width, bool is_big,
                       const uint64_t *rows, size_t rows_len, const uint64_t *specs, size_t specs_len, const uint8_t *calls,
                       size_t calls_len, uint64_t *out, size_t out_len);

@@ -57,9 +57,15 @@ fn none(answer: Next, raw: EntriesRaw) -> Passed
     }
 }
 
-// The values of a found row.
-fn skip_values(raw: EntriesRaw, bytes: &[u8], specs: &[u64], found: Abbreviation) -> Passed
-    ensures { λ r. ⌜ viewPassed r ≡ passedStep (skipValues (entryLimit .most) (now (bytes .entry)) (now (specs .entry)) raw (foundOf found)) ⌝ }
+// The values of a found row. Where they are refused, the state is the one given.
+fn skip_values(
+    given: EntriesRaw,
+    raw: EntriesRaw,
+    bytes: &[u8],
+    specs: &[u64],
+    found: Abbreviation,
+) -> Passed
+    ensures { λ r. ⌜ viewPassed r ≡ passedStep (skipValues (entryLimit .most) (now (bytes .entry)) (now (specs .entry)) given raw (foundOf found)) ⌝ }
 {
     let skipped = skip_attributes(raw, bytes, found, specs);
     let answer = skipped.answer;
@@ -72,7 +78,7 @@ fn skip_values(raw: EntriesRaw, bytes: &[u8], specs: &[u64], found: Abbreviation
             has_children: found.has_children,
             count: found.count,
         },
-        Outcome::Refused(e) => none(Next::Refused(e), after),
+        Outcome::Refused(e) => none(Next::Refused(e), given),
     }
 }
 
@@ -85,9 +91,9 @@ fn skip(raw: EntriesRaw, bytes: &[u8], rows: &[u64], specs: &[u64]) -> Passed
     let answer = read.answer;
     let after = read.raw;
     match answer {
-        Coded::Found(found) => skip_values(after, bytes, specs, found),
+        Coded::Found(found) => skip_values(raw, after, bytes, specs, found),
         Coded::Null => none(Next::NoMore, after),
-        Coded::Refused(e) => none(Next::Refused(e), after),
+        Coded::Refused(e) => none(Next::Refused(e), raw),
     }
 }
 
@@ -222,7 +228,7 @@ fn open_and_run(
 // A raw reader over a part of a unit that starts at the offset `start`, and calls on it: 0 is read_entry,
 // any other number read_abbreviation and skip_attributes. Words for each call: status, 1 for an entry,
 // position and depth of the next item; then the entry or null that was read, or tag, children and
-// count of the entry that was passed.
+// count of the entry that was passed. A refusal keeps the state that the call was given.
 #[no_mangle]
 pub extern "C" fn tehkumir_raw(
     bytes: &[u8],
