@@ -5,7 +5,7 @@ ghost use Prim.Native.Nat.{_≤_};
 ghost use lib.ListN.{length};
 ghost use Rattle.abbrev.specs.Table.{entryLimit};
 ghost use Rattle.abbrev.specs.Views.{foundOf};
-ghost use Rattle.entries.specs.Raw.{opened};
+ghost use Rattle.entries.specs.Raw.{movedTo, opened};
 ghost use Rattle.entries.specs.Views.{viewRawEntry, viewSaid, viewNext};
 ghost use Rattle.lent.specs.Calls.{skipValues};
 ghost use Rattle.capi.specs.Calls.{answerWords, readStep, steppedWords, skipStep, passedStep, noEntry, rawCall, rawCalls};
@@ -57,15 +57,17 @@ fn none(answer: Next, raw: EntriesRaw) -> Passed
     }
 }
 
-// The values of a found row. Where they are refused, the state is the one given.
+// The values of a found row. Where they are refused, the state goes back to the place and depth that the
+// call was given.
 fn skip_values(
-    given: EntriesRaw,
     raw: EntriesRaw,
+    position: usize,
+    depth: i64,
     bytes: &[u8],
     specs: &[u64],
     found: Abbreviation,
 ) -> Passed
-    ensures { λ r. ⌜ viewPassed r ≡ passedStep (skipValues (entryLimit .most) (now (bytes .entry)) (now (specs .entry)) given raw (foundOf found)) ⌝ }
+    ensures { λ r. ⌜ viewPassed r ≡ passedStep (skipValues (entryLimit .most) (now (bytes .entry)) (now (specs .entry)) (movedTo raw position depth) raw (foundOf found)) ⌝ }
 {
     let skipped = skip_attributes(raw, bytes, found, specs);
     let answer = skipped.answer;
@@ -78,7 +80,12 @@ fn skip_values(
             has_children: found.has_children,
             count: found.count,
         },
-        Outcome::Refused(e) => none(Next::Refused(e), given),
+        Outcome::Refused(e) => {
+            let mut given = after;
+            given.position = position;
+            given.depth = depth;
+            none(Next::Refused(e), given)
+        }
     }
 }
 
@@ -87,13 +94,15 @@ fn skip_values(
 fn skip(raw: EntriesRaw, bytes: &[u8], rows: &[u64], specs: &[u64]) -> Passed
     ensures { λ r. ⌜ viewPassed r ≡ skipStep (entryLimit .most) (now (bytes .entry)) (now (rows .entry)) (now (specs .entry)) raw ⌝ }
 {
+    let position = raw.position;
+    let depth = raw.depth;
     let read = read_abbreviation(raw, bytes, rows, specs);
     let answer = read.answer;
     let after = read.raw;
     match answer {
-        Coded::Found(found) => skip_values(raw, after, bytes, specs, found),
+        Coded::Found(found) => skip_values(after, position, depth, bytes, specs, found),
         Coded::Null => none(Next::NoMore, after),
-        Coded::Refused(e) => none(Next::Refused(e), raw),
+        Coded::Refused(e) => none(Next::Refused(e), after),
     }
 }
 

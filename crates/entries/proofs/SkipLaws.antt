@@ -69,6 +69,15 @@ module _ (most : ℕ) (w : EntriesRaw) (s rows specs : List ℕ) where
   pub code-kept : {o : Option Found} → rawAbbreviation most w s rows specs .answer ≡ got o → KeptRaw (length s) w
   code-kept h = raw-kept (length s) w (code-read h .kept)
 
+  -- whatever it says, it moves nothing but the place and the depth
+  pub code-back : movedTo (rawAbbreviation most w s rows specs .raw) (w .position) (w .depth) ≡ w
+  unfolding rawAbbreviation
+  code-back = go (depthAfter (abbreviationAt most s rows specs (w .position)) (w .depth)) (judged (keepsRaw (length s) w) (abbreviationAt most s rows specs (w .position)))
+    where
+      go : (d : ℤ) (r : Answer (Read (Option Found))) → movedTo (moves w d r .raw) (w .position) (w .depth) ≡ w
+      go d (got v) = refl
+      go d (refused n) = refl
+
   -- the state behind it
   abbrev behind : {o : Option Found} → Code o → EntriesRaw
   behind {o} c = movedTo w (c .next) (depthAfter (gives o (c .next)) (w .depth))

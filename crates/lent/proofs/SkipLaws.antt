@@ -12,7 +12,7 @@ use Rattle.abbrev.specs.declared.lookup.Abbreviation.{Abbreviation}
 use Rattle.attribute.specs.Attributes.{pad}
 use Rattle.attribute.specs.Views.{viewAttribute}
 use Rattle.entries.specs.Entry.{Entry, nullEntry}
-use Rattle.entries.specs.Raw.{Moved, Taken, Listed, refusedEntry, rawAbbreviation, rawEntry, rawAttributes, rawSkip}
+use Rattle.entries.specs.Raw.{movedTo, Moved, Taken, Listed, refusedEntry, rawAbbreviation, rawEntry, rawAttributes, rawSkip}
 use Rattle.entries.specs.Views.{viewCoded, viewEntry, viewOutcome, viewSaid, viewRawAttributes, viewRawSkipped}
 use Rattle.entries.specs.declared.raw.Coded.{Coded}
 use Rattle.entries.specs.declared.raw.Coded.the-variants as coded
@@ -23,7 +23,7 @@ use Rattle.entries.specs.declared.raw.RawAttributes.{RawAttributes}
 use Rattle.entries.specs.declared.raw.RawSkipped.{RawSkipped}
 use Rattle.entries.specs.declared.raw.Said.the-variants as said
 use Rattle.entries.proofs.RawLaws.{same-taken}
-use Rattle.entries.proofs.SkipLaws.{raw-read-skip, code-kept, code-refuses, code-null, code-values, code-values-refuse, InTwo, entry-read-skip, null-in-one}
+use Rattle.entries.proofs.SkipLaws.{raw-read-skip, code-kept, code-back, code-refuses, code-null, code-values, code-values-refuse, InTwo, entry-read-skip, null-in-one}
 use Rattle.lent.specs.Calls.{placed, skippedCall}
 use Rattle.lent.specs.Steps.{readValues}
 use Rattle.lent.specs.Views.{viewReadEntry, viewReadAbbreviation, viewReadAttributes, viewSkipped}
@@ -137,6 +137,10 @@ module _ (most : ℕ) (w : EntriesRaw) (s rows specs : List ℕ) where
         go : (m : Answer (Unit {0})) → rawAttributes most (rawAbbreviation most w s rows specs .raw) s specs f .answer ≡ m → readValues most s specs w (rawAbbreviation most w s rows specs .raw) f ≡ rawEntry most w s rows specs
         go (got u) z = rw z (sym (code-values most w s rows specs (says-code q) z))
         go (refused n) z = rw z (sym (code-values-refuse most w s rows specs (says-code q) z))
+
+    -- back at the place and depth of the state given
+    pub turn-back : movedTo (x .raw) (w .position) (w .depth) ≡ w
+    turn-back = ap (λ (y : Moved (Option Found)). movedTo (y .raw) (w .position) (w .depth)) e ∙ code-back most w s rows specs
 
   -- ---- read_abbreviation and skip_attributes: where read_entry gives an entry or a null, its answer, its state and its entry but for the values
   abbrev pub unstored : Taken → Taken
