@@ -1,4 +1,4 @@
--- A state that keeps 01's sizes hands back one that keeps them, and new ones keep them: 1 is only ever said of made-up states and rows.
+-- A state that keeps 01's sizes hands back one that keeps them, and new ones keep them.
 use mathlib.Core.Bool.{Bool, true, false, _&&_}
 use mathlib.Core.Path.{_≡_, refl, ap}
 use mathlib.Core.List.{List, [], _∷_}

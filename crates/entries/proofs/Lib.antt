@@ -11,3 +11,4 @@ pub mod CursorLaws
 pub mod OpenLaws
 pub mod SkipLaws
 pub mod KeepLaws
+pub mod OneLaws
