@@ -1,30 +1,18 @@
 -- Laws of answers handed back as words.
-use mathlib.Core.Bool.{_&&_}
-use mathlib.Core.Path.{_≡_, refl, ap}
+use mathlib.Core.Path.{_≡_, ap}
 use mathlib.Core.List.{List, [], _∷_}
-use Prim.Native.Nat.{ℕ, _+_}
+use Prim.Native.Nat.{ℕ}
 use native.Mathlib.Omega.{arith}
 use lib.ListN.{length}
-use lib.Dec.{leb}
 use Rattle.reader.specs.Answer.{Answer, got, refused, andThen}
 use Rattle.abbrev.specs.Table.{Declaration}
-use Rattle.unit.specs.Header.{unitEnd}
-use Rattle.unit.specs.Range.{part, unitBytes}
-use Rattle.unit.specs.declared.header.UnitHeader.{UnitHeader}
-use Rattle.unit.proofs.RangeLaws.{Or19}
 use Rattle.reader.specs.declared.endianity.RunTimeEndian.{RunTimeEndian}
 use Rattle.entries.specs.Cursor.{Cursor, OpenedCursor, orNoCursor}
 use Rattle.entries.specs.Entry.{Entry}
 use Rattle.entries.specs.Open.{EntryAt, orNull}
-use Rattle.reader.proofs.Answers.{cond-by}
 use Rattle.capi.specs.Tables.{tableWords}
 use Rattle.capi.specs.Units.{entryOr}
 use Rattle.capi.specs.Words.{Says, Gives}
-
--- a unit's bytes are refused only with 19
-pub bytes-19 : (h : UnitHeader) (s : List ℕ) → Or19 (unitBytes h s)
-unfolding unitBytes part
-bytes-19 h s = cond-by Or19 (leb (h .offset) (h .offset + unitEnd h) && leb (h .offset + unitEnd h) (length s)) _ _ (λ _. tt) (λ _. refl)
 
 -- an entry behind a refusal's null
 pub entry-back : (most : ℕ) (d : Answer Entry) {x : EntryAt} → x ≡ orNull most d → entryOr x ≡ d

@@ -13,6 +13,7 @@ use Rattle.reader.proofs.FieldLaws.{word-size-most, initial-length-size-most}
 use Rattle.unit.proofs.HeaderLaws.{type-size-most}
 use lib.ListN.{length, take, drop, length-drop}
 use lib.Seq.{length-take-le}
+use Rattle.reader.specs.Sizes.{maxSection}
 use Rattle.reader.specs.Answer.{Answer, got, refused, andThen, Holds}
 use Rattle.attribute.proofs.FormLaws.{both}
 use Rattle.abbrev.specs.Rows.{Left}
@@ -126,8 +127,9 @@ module _ (info : List ℕ) (h : UnitHeader) (f : Fit (length info) h) {u s : Lis
   whole : (unitBytes h info ≡ got u) × (length u ≡ unitEnd h)
   unfolding unitBytes
   whole =
-      let z = handed-part info (h .offset) (h .offset + unitEnd h) (omega arith) (f .there) a in
-      (z .0, omega (arith, z .1))
+      let q = le-leb (length info) maxSection (f .short) in
+      let z = handed-part info (h .offset) (h .offset + unitEnd h) (omega arith) (f .there) (rw q at a) in
+      (rw q (z .0), omega (arith, z .1))
 
   buf : (entriesBuf h u ≡ got s) × (length s ≡ unitEnd h - sizeOfHeader h)
   unfolding entriesBuf

@@ -4,7 +4,7 @@ use mathlib.Core.Path.{_≡_, refl, sym, ap, _∙_}
 use mathlib.Core.List.{List}
 use Prim.Native.Nat.{ℕ, _+_, _^_, _≤_, _<_}
 use native.Mathlib.Omega.{arith}
-use borrow.Author.Tests.{ne-eqb, eqb-true}
+use borrow.Author.Tests.{ne-eqb, eqb-true, leb-true}
 use lib.Dec.{eqb, leb}
 use lib.ListN.{length, take}
 use lib.Seq.{length-take-le}
@@ -158,8 +158,9 @@ type-numbered s at n f e =
 
 -- ---- a whole header
 
--- a header read at `at`: the entries start after its size, inside of the unit, and the unit lies in the section
+-- a header read at `at`: the section keeps the sizes, the entries start after the header's size, inside of the unit, and the unit lies in the section
 pub record HeaderIn (s : List ℕ) (at : ℕ) (r : Read UnitHeader) : Type 0 where
+  pub short : length s ≤ maxSection
   pub offset : r .value .offset ≡ at
   pub start : r .next ≡ at + sizeOfHeader (r .value)
   pub inside : r .next ≤ at + unitEnd (r .value)
@@ -195,24 +196,25 @@ pub header-in : (sec : Section) (s : List ℕ) (at : ℕ) (e : RunTimeEndian) �
 unfolding headerAt
 header-in sec s at e =
     cond-by (Holds (HeaderIn s at)) (leb (length s) maxSection) _ (refused 1)
-    (λ _.
+    (λ z.
     holds-then (λ l. (l .next ≡ at + initialLengthSize (l .value .format)) × (l .next ≤ length s)) (HeaderIn s at) (initialLengthAt s at e) _ (initial-in s at e)
     (λ l h.
     holds-then (λ p. (p ≡ l .next + l .value .unit-length) × (p ≤ length s)) (HeaderIn s at) (skipAt s (l .next) (l .value .unit-length)) _
     (skip-in s (l .next) (l .value .unit-length))
-    (λ end k. whole l h end k (bodyAt sec (take end s) at (l .value) (l .next) e) (body-in sec (take end s) at (l .value) (l .next) e))))
+    (λ end k. whole (leb-true (length s) maxSection z) l h end k (bodyAt sec (take end s) at (l .value) (l .next) e) (body-in sec (take end s) at (l .value) (l .next) e))))
     (λ _. tt)
   where
-    whole : (l : Read Initial) → (l .next ≡ at + initialLengthSize (l .value .format)) × (l .next ≤ length s)
+    whole : length s ≤ maxSection → (l : Read Initial) → (l .next ≡ at + initialLengthSize (l .value .format)) × (l .next ≤ length s)
         → (end : ℕ) → (end ≡ l .next + l .value .unit-length) × (end ≤ length s)
         → (r : Answer (Read UnitHeader)) → Holds (BodyIn (take end s) at (l .value) (l .next)) r → Holds (HeaderIn s at) r
-    whole l h end k (got r) b =
+    whole z l h end k (got r) b =
         let f : initialLengthSize (r .value .encoding .format) ≡ initialLengthSize (l .value .format) = ap initialLengthSize (b .format) in
         let t = length-take-le end s (k .1) in
         record {
+          short = z;
           offset = b .offset;
           start = omega (arith, b .start, h .0);
           inside = omega (arith, b .within, b .unit-length, h .0, k .0);
           there = omega (arith, b .unit-length, h .0, k .0, k .1);
         }
-    whole l h end k (refused n) b = tt
+    whole z l h end k (refused n) b = tt

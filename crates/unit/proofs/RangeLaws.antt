@@ -1,18 +1,22 @@
 -- Laws of parts of a unit.
 use mathlib.Core.Bool.{cond, and-false, _&&_}
 use mathlib.Core.Logic.{⊎-elim}
-use mathlib.Core.Path.{refl, sym, ap, _≡_, _∙_}
+use mathlib.Core.Path.{refl, sym, ap, subst, _≡_, _∙_}
 use mathlib.Core.List.{List}
 use Prim.Native.Nat.{ℕ, _+_, _-_, _≤_, _<_}
 use native.Mathlib.Omega.{arith}
 use borrow.Author.Tests.{le-leb, lt-leb}
 use lib.Dec.{leb}
 use lib.ListN.{length, take, drop}
-use Rattle.reader.specs.Answer.{Answer, got, refused}
+use Rattle.reader.specs.Answer.{Answer, got, refused, Read, Holds}
+use Rattle.reader.specs.Sizes.{maxSection}
+use Rattle.reader.specs.declared.endianity.RunTimeEndian.{RunTimeEndian}
 use Rattle.reader.proofs.Answers.{cond-by}
 use Rattle.reader.proofs.Numbers.{lt-or-le}
 use Rattle.unit.specs.Header.{sizeOfHeader, unitEnd, inBounds}
-use Rattle.unit.specs.Range.{part, Handed, entriesBuf, rangeFrom}
+use Rattle.unit.specs.Parse.{Section, headerAt}
+use Rattle.unit.specs.Range.{part, Handed, unitBytes, entriesBuf, rangeFrom}
+use Rattle.unit.proofs.ParseLaws.{HeaderIn, header-in}
 use Rattle.unit.specs.declared.header.UnitHeader.{UnitHeader}
 
 module _ (s : List ℕ) (a b : ℕ) where
@@ -69,6 +73,13 @@ buf-19 h u = part-19 u (sizeOfHeader h) (unitEnd h)
 pub from-19 : (h : UnitHeader) (u : List ℕ) (a : ℕ) → Or19 (rangeFrom h u a)
 unfolding rangeFrom
 from-19 h u a = cond-by Or19 (inBounds h a) _ _ (λ _. part-19 u a (unitEnd h)) (λ _. refl)
+
+-- and so does a header's own section
+pub bytes-19 : (sec : Section) (s : List ℕ) (at : ℕ) (e : RunTimeEndian) {r : Read UnitHeader} → headerAt sec s at e ≡ got r → Or19 (unitBytes (r .value) s)
+unfolding unitBytes
+bytes-19 sec s at e {r} q =
+    let h : Holds (HeaderIn s at) (got r) = subst (λ (x : Answer (Read UnitHeader)). Holds (HeaderIn s at) x) q (header-in sec s at e) in
+    rw (le-leb (length s) maxSection (h .short)) (part-19 s (r .value .offset) (r .value .offset + unitEnd (r .value)))
 
 -- so the number beside a part is 0 where it was got
 pub handed-got : (d : Answer (List ℕ)) {r : List ℕ} {n : ℕ} → Or19 d → Handed d r n → n ≡ 0 → d ≡ got r

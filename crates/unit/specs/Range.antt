@@ -1,4 +1,4 @@
--- Parts of a unit, handed back out of the caller's slice, or 19.
+-- Parts of a unit, handed back out of the caller's slice, or 19; 1 for a section that is too long.
 use mathlib.Core.Bool.{cond, _&&_}
 use mathlib.Core.List.{List, []}
 use mathlib.Core.Path.{_≡_}
@@ -6,6 +6,7 @@ use Prim.Native.Nat.{ℕ, _+_, _-_}
 use lib.Dec.{leb}
 use lib.ListN.{length, take, drop}
 use Rattle.reader.specs.Answer.{Answer, got, refused}
+use Rattle.reader.specs.Sizes.{maxSection}
 use Rattle.unit.specs.Header.{sizeOfHeader, unitEnd, inBounds}
 use Rattle.unit.specs.declared.header.UnitHeader.{UnitHeader}
 
@@ -26,9 +27,9 @@ pub record Handed (d : Answer (List ℕ)) (r : List ℕ) (refusal : ℕ) : Type 
   pub part-is : r ≡ handed d
   pub refusal-is : refusal ≡ refusalOf d
 
--- the unit's own bytes in its section, from its first length byte to its end
+-- the unit's own bytes in its section, from its first length byte to its end; 01, question 1 is asked of the section
 unfoldable pub unitBytes : UnitHeader → List ℕ → Answer (List ℕ)
-unitBytes h s = part s (h .offset) (h .offset + unitEnd h)
+unitBytes h s = cond (leb (length s) maxSection) (part s (h .offset) (h .offset + unitEnd h)) (refused 1)
 
 -- the bytes of the entries, out of the unit's own bytes: all that follow the header
 unfoldable pub entriesBuf : UnitHeader → List ℕ → Answer (List ℕ)

@@ -1,5 +1,5 @@
-// Parts of a unit, handed back out of the caller's slice. The number beside a part is 0, or 19 where
-// there is none.
+// Parts of a unit, handed back out of the caller's slice. The number beside a part is 0; where there is
+// none it is 19, or 1 beside a section that is too long.
 
 ghost use mathlib.Core.Bool.{cond};
 ghost use mathlib.Core.Path.{_≡_};
@@ -9,12 +9,13 @@ ghost use Rattle.reader.specs.Answer.{refused};
 ghost use Rattle.unit.specs.Header.{unitEnd};
 ghost use Rattle.unit.specs.Range.{Handed, part, unitBytes, entriesBuf, rangeOf, rangeFrom, rangeTo};
 use super::header::UnitHeader;
+use reader::common::MAX_SECTION;
 
 // Refused.
-fn none<'a, 'b>(bytes: &'a [u8], refusal: &'b mut u64) -> &'a [u8]
-    ensures { λ r. ⌜ Handed (refused 19) (now r) (now (refusal .exit)) ⌝ }
+fn none<'a, 'b>(bytes: &'a [u8], number: u64, refusal: &'b mut u64) -> &'a [u8]
+    ensures { λ r. ⌜ Handed (refused number) (now r) (now (refusal .exit)) ⌝ }
 {
-    *refusal = 19;
+    *refusal = number;
     &bytes[0..0]
 }
 
@@ -23,10 +24,10 @@ pub fn part<'a, 'b>(bytes: &'a [u8], from: usize, to: usize, refusal: &'b mut u6
     ensures { λ r. ⌜ Handed (part (now (bytes .entry)) from to) (now r) (now (refusal .exit)) ⌝ }
 {
     if to < from {
-        return none(bytes, refusal);
+        return none(bytes, 19, refusal);
     }
     if bytes.len() < to {
-        return none(bytes, refusal);
+        return none(bytes, 19, refusal);
     }
     *refusal = 0;
     &bytes[from..to]
@@ -56,9 +57,12 @@ impl UnitHeader {
     pub fn bytes<'a, 'b>(self, section: &'a [u8], refusal: &'b mut u64) -> &'a [u8]
         ensures { λ r. ⌜ Handed (unitBytes self (now (section .entry))) (now r) (now (refusal .exit)) ⌝ }
     {
+        if MAX_SECTION < section.len() {
+            return none(section, 1, refusal);
+        }
         let offset = self.offset;
         if section.len() < offset {
-            return none(section, refusal);
+            return none(section, 19, refusal);
         }
         let end = offset + end_within(self, section.len() - offset);
         part(section, offset, end, refusal)
@@ -87,9 +91,9 @@ impl UnitHeader {
             if self.is_in_bounds(end) {
                 return part(unit, start, end, refusal);
             }
-            return none(unit, refusal);
+            return none(unit, 19, refusal);
         }
-        none(unit, refusal)
+        none(unit, 19, refusal)
     }
 
     // The entries from `start` on.
@@ -100,7 +104,7 @@ impl UnitHeader {
             let end = end_within(self, unit.len());
             return part(unit, start, end, refusal);
         }
-        none(unit, refusal)
+        none(unit, 19, refusal)
     }
 
     // The entries up to `end`.
@@ -111,6 +115,6 @@ impl UnitHeader {
             let start = self.size_of_header();
             return part(unit, start, end, refusal);
         }
-        none(unit, refusal)
+        none(unit, 19, refusal)
     }
 }
