@@ -42,14 +42,14 @@ no-spec count l i h = drop-of-length-le (specsFrom count l) {i = i} (omega (arit
 
 -- ---- attributes kept in an array
 
--- the code's filler
+-- an attribute of the code whose view is the filler
 abbrev pub nothing : declared-attribute.Attribute
 nothing = record { name = 0; form = 0; value = Flag false }
 
-pub pad-none : (n : ℕ) → map viewAttribute (replicate n nothing) ≡ pad n []
+pub pad-none : (n : ℕ) (a : declared-attribute.Attribute) → viewAttribute a ≡ filler → map viewAttribute (replicate n a) ≡ pad n []
 unfolding pad
-pad-none zero = refl
-pad-none (suc n) = ap (λ (l : List Attribute). filler ∷ l) (pad-none n)
+pad-none zero a q = refl
+pad-none (suc n) a q = ap (λ (x : Attribute). x ∷ map viewAttribute (replicate n a)) q ∙ ap (λ (l : List Attribute). filler ∷ l) (pad-none n a q)
 
 length-pad : (n : ℕ) (xs : List Attribute) → length (pad n xs) ≡ n
 unfolding pad
@@ -88,9 +88,9 @@ pub record Kept (n : ℕ) (s : List ℕ) (start : ℕ) (c : Encoding) (e : RunTi
   pub inside : p ≤ length s
   pub rest : attributesAt s start c e (specsFrom count l) at ≡ before vs (attributesAt s start c e (drop i (specsFrom count l)) p)
 
-pub kept-begun : (n : ℕ) (s : List ℕ) (start : ℕ) (c : Encoding) (e : RunTimeEndian) (count : ℕ) (l : List ℕ) (at : ℕ) → at ≤ length s → Kept n s start c e count l at (replicate n nothing) 0 at
-kept-begun n s start c e count l at h =
-    record { vs = []; is = pad-none n; len = refl; inside = h; rest = before-none (attributesAt s start c e (specsFrom count l) at) }
+pub kept-begun : (n : ℕ) (s : List ℕ) (start : ℕ) (c : Encoding) (e : RunTimeEndian) (count : ℕ) (l : List ℕ) (at : ℕ) → at ≤ length s → (a : declared-attribute.Attribute) → viewAttribute a ≡ filler → Kept n s start c e count l at (replicate n a) 0 at
+kept-begun n s start c e count l at h a q =
+    record { vs = []; is = pad-none n a q; len = refl; inside = h; rest = before-none (attributesAt s start c e (specsFrom count l) at) }
 
 module _ {n : ℕ} {s : List ℕ} {start : ℕ} {c : Encoding} {e : RunTimeEndian} {count : ℕ} {l : List ℕ} {at : ℕ} {attrs : List declared-attribute.Attribute} {i p : ℕ}
     (t : Kept n s start c e count l at attrs i p) where

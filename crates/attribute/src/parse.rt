@@ -13,7 +13,6 @@ ghost use Rattle.attribute.specs.Views.{viewParsed, viewAttributes};
 use super::raw::FormValue;
 use super::raw::form_at;
 use super::value::Attribute;
-use super::value::AttributeValue;
 use super::value::value_of;
 use abbrev::lookup::Abbreviation;
 use abbrev::lookup::AttributeSpecification;
@@ -123,11 +122,7 @@ fn read_listed(
     requires { ⌜ Listed (now specs) first count ⌝ }
     ensures { λ r. ⌜ viewAttributes r ≡ stored (entryLimit .most) (attributesAt (now (bytes .entry)) start encoding endian (specsFrom count (drop (first * 3) (now (specs .entry)))) at) ⌝ }
 {
-    let none = Attribute {
-        name: 0,
-        form: 0,
-        value: AttributeValue::Flag(false),
-    };
+    let none = Attribute::none();
     let mut attrs = [none; 64];
     let mut next = at;
     let mut i: usize = 0;
@@ -178,11 +173,7 @@ pub fn read_attributes(
             return read_listed(bytes, start, at, encoding, endian, specs, first, count);
         }
     }
-    let none = Attribute {
-        name: 0,
-        form: 0,
-        value: AttributeValue::Flag(false),
-    };
+    let none = Attribute::none();
     Attributes {
         end: Place::Refused(Error::SizeLimit),
         attrs: [none; 64],

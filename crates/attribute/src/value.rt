@@ -1,9 +1,10 @@
 // Attributes and their values.
 
 ghost use mathlib.Core.Path.{_≡_};
+ghost use Rattle.attribute.specs.Attributes.{filler};
 ghost use Rattle.attribute.specs.Steps.{Fits};
 ghost use Rattle.attribute.specs.Value.{allowSectionOffset, isSectionOffset, valueUnder};
-ghost use Rattle.attribute.specs.Views.{value, viewValue};
+ghost use Rattle.attribute.specs.Views.{value, viewValue, viewAttribute};
 use super::form::Kind;
 use reader::common::Encoding;
 use reader::twos::from_word;
@@ -42,6 +43,19 @@ pub struct Attribute {
     pub name: u16,
     pub form: u16,
     pub value: AttributeValue,
+}
+
+impl Attribute {
+    // What stands in a place that holds no attribute.
+    pub fn none() -> Attribute
+        ensures { λ r. ⌜ viewAttribute r ≡ filler ⌝ }
+    {
+        Attribute {
+            name: 0,
+            form: 0,
+            value: AttributeValue::Flag(false),
+        }
+    }
 }
 
 // A value's case and its numbers; a second number that it does not have is 0.

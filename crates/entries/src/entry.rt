@@ -150,11 +150,7 @@ impl Entry {
 pub(crate) fn null_at(offset: usize, depth: i64) -> Entry
     ensures { λ r. ⌜ viewEntry r ≡ nullEntry (entryLimit .most) offset depth ⌝ }
 {
-    let none = Attribute {
-        name: 0,
-        form: 0,
-        value: AttributeValue::Flag(false),
-    };
+    let none = Attribute::none();
     Entry {
         tag: 0,
         has_children: false,

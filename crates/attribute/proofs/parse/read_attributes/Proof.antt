@@ -3,6 +3,7 @@ use Rattle.attribute.proofs.ListLaws.{place-within, sizes-listed, pad-n
 use Rattle.attribute.specs.Attributes.{readAttributes, stored}
 use borrow.Author.Needs.{needs}
 use mathlib.Core.Bool.{and-false}
+use mathlib.Core.Logic.{⊎-elim}
 use mathlib.Core.Path.{_≡_, refl, sym, ap, _∙_}
 use Rattle.attribute.proofs.parse.read_attributes.Statement.{statement}
 use Rattle.attribute.proofs.parse.read_attributes.Tie as tie
@@ -18,7 +19,11 @@ read-attributes-spec =
     (λ c κs. (place-within _ _ _ (sym (c .before .before .before .keeps-place .ensures) ∙ c .before .before .if1 .taken), sizes-listed (c .before .before .before .before .before .before .args .specs .now) (foundOf (c .before .before .before .before .before .before .args .abbreviation)) (sym (c .before .keeps-sizes .ensures) ∙ c .if2 .taken)))
     -- returns
     (λ c. rw (← c .before .before .before .before .keeps-place .ensures, c .before .before .before .if1 .taken, ← c .before .before .keeps-sizes .ensures, c .before .if2 .taken) (c .read-listed .ensures))
+    (λ c κs. search needs)
     -- returns-2
-    (λ c. rw (← c .before .before .before .keeps-place .ensures, c .before .before .if1 .taken, ← c .before .keeps-sizes .ensures, c .if2 .left, pad-none 64))
-    -- returns-3
-    (λ c. rw (← c .before .keeps-place .ensures, c .if1 .left, pad-none 64)))
+    (λ c.
+    let n = pad-none 64 (c .none .result) (c .none .ensures) in
+    ⊎-elim
+    (λ w. rw (← c .before .before .keeps-place .ensures, w .0 .taken, ← w .1 .ensures, w .2 .left, n))
+    (λ w. rw (← c .before .before .keeps-place .ensures, w .left, n))
+    (c .before .if1 .came)))

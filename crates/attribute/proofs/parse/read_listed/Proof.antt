@@ -28,23 +28,24 @@ read-listed-spec =
     (tie.spec
     Inv-loop
     μ-loop
+    (λ c κs. search needs)
     -- loop-holds
-    (λ c. kept-begun 64 _ _ _ _ _ _ _ (c .before .before .pre .0 .inside))
+    (λ c. kept-begun 64 _ _ _ _ _ _ _ (c .before .before .before .pre .0 .inside) (c .none .result) (c .none .ensures))
     -- spec-at-requires
-    (λ c κs. (c .before .before .before .before .pre .1, c .loop-test .taken))
+    (λ c κs. (c .before .before .before .before .before .pre .1, c .loop-test .taken))
     -- form-at-requires
-    (λ c κs. record { inside = c .before .before .loop .inv .inside; short = c .before .before .before .before .before .pre .0 .short })
+    (λ c κs. record { inside = c .before .before .loop .inv .inside; short = c .before .before .before .before .before .before .pre .0 .short })
     (λ c. search needs)
     -- value-of-requires
-    (λ c κs. rw (← c .before .before .before .form-at .ensures, c .before .kind .given .1) at (form-fits (c .before .before .before .before .before .before .before .before .before .args .bytes .now) (c .before .before .before .before .before .before .before .before .before .args .start) (c .before .before .before .before .before .before .before .before .before .args .encoding) (c .before .before .before .before .before .before .before .before .before .args .endian) (specificationOf (c .before .before .before .before .spec-at .result)) (c .before .before .before .before .before .before .loop .next)))
+    (λ c κs. rw (← c .before .before .before .form-at .ensures, c .before .kind .given .1) at (form-fits (c .before .before .before .before .before .before .before .before .before .before .args .bytes .now) (c .before .before .before .before .before .before .before .before .before .before .args .start) (c .before .before .before .before .before .before .before .before .before .before .args .encoding) (c .before .before .before .before .before .before .before .before .before .before .args .endian) (specificationOf (c .before .before .before .before .spec-at .result)) (c .before .before .before .before .before .before .loop .next)))
     (λ c. search needs)
     (λ c. search needs)
     (λ c. search needs)
     -- returns
-    (λ c. rw (kept-stop (c .before .before .before .before .before .before .loop .inv) (c .before .before .before .before .before .loop-test .taken) (c .before .before .before .before .spec-at .ensures) (sym (c .before .before .before .form-at .ensures) ∙ ap viewFormValue (c .before .e .given .1)), pad-none 64))
+    (λ c. rw (kept-stop (c .before .before .before .before .before .before .loop .inv) (c .before .before .before .before .before .loop-test .taken) (c .before .before .before .before .spec-at .ensures) (sym (c .before .before .before .form-at .ensures) ∙ ap viewFormValue (c .before .e .given .1)), pad-none 64 (c .before .before .before .before .before .before .before .none .result) (c .before .before .before .before .before .before .before .none .ensures)))
     (λ c. search needs)
     (λ c. search needs)
     -- loop-again
-    (λ c. kept-more (c .before .before .before .before .before .before .before .loop .inv) (c .before .before .before .before .before .before .loop-test .taken) (c .before .before .before .before .before .spec-at .ensures) (c .before .before .before .before .before .before .before .before .before .before .pre .1 .most) (sym (c .before .before .before .before .form-at .ensures) ∙ ap viewFormValue (c .before .before .kind .given .1)) _ (ap (λ (v : Value). attribute (c .before .before .before .before .before .spec-at .result .name) (c .before .before .before .before .before .spec-at .result .form) v) (c .value-of .ensures)))
+    (λ c. kept-more (c .before .before .before .before .before .before .before .loop .inv) (c .before .before .before .before .before .before .loop-test .taken) (c .before .before .before .before .before .spec-at .ensures) (c .before .before .before .before .before .before .before .before .before .before .before .pre .1 .most) (sym (c .before .before .before .before .form-at .ensures) ∙ ap viewFormValue (c .before .before .kind .given .1)) _ (ap (λ (v : Value). attribute (c .before .before .before .before .before .spec-at .result .name) (c .before .before .before .before .before .spec-at .result .form) v) (c .value-of .ensures)))
     -- returns-2
     (λ c. rw (kept-end (c .before .loop .inv) (c .loop-test .left), c .before .loop .inv .is)))
