@@ -8,8 +8,8 @@ use lib.ListN.{length, take, drop, replicate, length-append, length-replicate}
 use lib.Seq.{take-at, drop-at, length-take-le}
 use Rattle.reader.specs.Answer.{Answer, got, refused}
 use Rattle.reader.specs.Sizes.{maxSection}
-use Rattle.abbrev.specs.Rows.{specWords, allSpecs, Row, rowsWords, rowsFrom, Laid}
-use Rattle.abbrev.specs.Steps.{Filled, Blank}
+use Rattle.abbrev.specs.Rows.{specWords, allSpecs, Row, rowsWords, rowsFrom, Laid, Blank}
+use Rattle.abbrev.specs.Steps.{Filled}
 use Rattle.abbrev.specs.Table.{Specification, Declaration, Limit, entryLimit, declarationsAt, abbreviationsAt}
 use Rattle.abbrev.specs.Tabled.{Tabled}
 use Rattle.abbrev.specs.declared.table.Abbreviations.the-variants.{Got, Refused}

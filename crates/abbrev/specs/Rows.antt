@@ -34,6 +34,13 @@ abbrev pub rowsFrom : ℕ → List Declaration → List Row
 rowsFrom first [] = []
 rowsFrom first (d ∷ ds) = record { declaration = d; first = first } ∷ rowsFrom (first + length (d .specifications)) ds
 
+-- a table in so many lent words, in file order
+abbrev pub tableRows : ℕ → List Declaration → List ℕ
+tableRows m t = rowsWords (rowsFrom 0 t) ++ replicate (m - length t * 5) 0
+
+abbrev pub tableSpecs : ℕ → List Declaration → List ℕ
+tableSpecs k t = specWords (allSpecs t) ++ replicate (k - length (allSpecs t) * 3) 0
+
 -- the words of a table and zeros behind them. 01 leaves one thing open, which row holds which abbreviation: `rowChoice`
 pub record Laid (rowsLength specsLength : ℕ) (rows specs : List ℕ) (t : List Declaration) : Type 0 where
   pub rowChoice : List Row
@@ -45,3 +52,8 @@ pub record Laid (rowsLength specsLength : ℕ) (rows specs : List ℕ) (t : List
 abbrev pub Left : ℕ → ℕ → List ℕ → List ℕ → Answer (List Declaration) → Type 0
 Left m k rows specs (got t) = Laid m k rows specs t
 Left m k rows specs (refused n) = (rows ≡ replicate m 0) × (specs ≡ replicate k 0)
+
+-- both slices zero
+pub record Blank (rows₀ specs₀ rows specs : List ℕ) : Type 0 where
+  pub no-rows : rows ≡ replicate (length rows₀) 0
+  pub no-specs : specs ≡ replicate (length specs₀) 0

@@ -4,7 +4,7 @@ use mathlib.Core.Path.{_≡_}
 use mathlib.Core.List.{List, [], _∷_, _++_}
 use Prim.Native.Nat.{ℕ, _+_, _-_, _*_, _/_, _≤_, _<_}
 use lib.Dec.{ltb, leb}
-use lib.ListN.{length, take, getD, replicate}
+use lib.ListN.{length, take, getD}
 use Rattle.reader.specs.Answer.{Answer, got, refused, gives}
 use Rattle.reader.specs.Errors.{numberOf}
 use Rattle.abbrev.specs.Lookup.{column}
@@ -89,8 +89,3 @@ pub record Filled (s : List ℕ) (at : ℕ) (rows specs rows' specs' : List ℕ)
 abbrev pub Filling : List ℕ → ℕ → List ℕ → List ℕ → List ℕ → List ℕ → Count → Type 0
 Filling s at rows specs rows' specs' (count.Got n first) = Filled s at rows specs rows' specs' n first
 Filling s at rows specs rows' specs' (count.Refused e) = declarationsAt s entryLimit (length rows / 5) (length specs / 3) [] at ≡ refused (numberOf e)
-
--- both slices zero
-pub record Blank (rows₀ specs₀ rows specs : List ℕ) : Type 0 where
-  pub no-rows : rows ≡ replicate (length rows₀) 0
-  pub no-specs : specs ≡ replicate (length specs₀) 0

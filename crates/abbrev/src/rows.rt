@@ -1,11 +1,12 @@
-// Words stored, cleared and searched.
+// Words stored and searched.
 
 ghost use mathlib.Core.Path.{_≡_};
 ghost use mathlib.Core.List.{[], _∷_, _++_};
-ghost use Prim.Native.Nat.{_+_, _-_, _*_, _/_, _≤_};
-ghost use lib.ListN.{length, take, replicate};
+ghost use Prim.Native.Nat.{_+_, _/_, _≤_};
+ghost use lib.ListN.{length, take};
 ghost use Rattle.abbrev.specs.Lookup.{column, indexOf};
-ghost use Rattle.abbrev.specs.Steps.{Blank};
+ghost use Rattle.abbrev.specs.Rows.{Blank};
+use reader::fill::clear_words;
 
 // Three words from a place on.
 pub(crate) fn put3(l: &mut [u64], at: usize, a: u64, b: u64, c: u64)
@@ -28,24 +29,12 @@ pub(crate) fn put5(l: &mut [u64], at: usize, a: u64, b: u64, c: u64, d: u64, e: 
     l[at + 4] = e;
 }
 
-// Zeros from a place on.
-pub(crate) fn clear(l: &mut [u64], from: usize)
-    requires { ⌜ from ≤ length (now l) ⌝ }
-    ensures { λ _. ⌜ now (l .exit) ≡ take from (now (l .entry)) ++ replicate (length (now (l .entry)) - from) 0 ⌝ }
-{
-    let mut i = from;
-    while i < l.len() {
-        l[i] = 0;
-        i += 1;
-    }
-}
-
 // No table: all words are zero.
 pub fn wipe(rows: &mut [u64], specs: &mut [u64])
     ensures { λ _. ⌜ Blank (now (rows .entry)) (now (specs .entry)) (now (rows .exit)) (now (specs .exit)) ⌝ }
 {
-    clear(rows, 0);
-    clear(specs, 0);
+    clear_words(rows, 0);
+    clear_words(specs, 0);
 }
 
 // The lowest of `n` rows with a code, or `n`.

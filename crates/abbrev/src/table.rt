@@ -11,7 +11,6 @@ ghost use Rattle.abbrev.specs.Steps.{After, SpecsRead, Fresh, Placed, En
 ghost use Rattle.abbrev.specs.Table.{entryLimit, judged, pairAt, constantAt, tagAt, childrenAt, taggedAt, headAt, has};
 ghost use Rattle.abbrev.specs.Tabled.{Tabled};
 ghost use Rattle.abbrev.specs.Views.{viewPair, viewHead};
-use super::rows::clear;
 use super::rows::find;
 use super::rows::put3;
 use super::rows::put5;
@@ -20,6 +19,7 @@ use reader::answer::SignedWord;
 use reader::answer::Word;
 use reader::common::MAX_SECTION;
 use reader::error::Error;
+use reader::fill::clear_words;
 use reader::leb128::read_sleb128;
 use reader::leb128::read_uleb128;
 use reader::leb128::read_uleb128_u16;
@@ -326,8 +326,8 @@ impl DebugAbbrev {
         }
         match parse(section, at, rows, specs) {
             Count::Got(n, first) => {
-                clear(rows, n * 5);
-                clear(specs, first * 3);
+                clear_words(rows, n * 5);
+                clear_words(specs, first * 3);
                 Abbreviations::Got(n)
             }
             Count::Refused(e) => {

@@ -8,7 +8,6 @@ ghost use Rattle.entries.specs.Cursor.{openedCursor};
 ghost use Rattle.entries.specs.Views.{viewNext, viewCursor, viewCursorNext};
 ghost use Rattle.capi.specs.Calls.{answerWords, rawWords, calledWords, cursorCall, cursorCalls};
 ghost use Rattle.capi.specs.Words.{Gives, encodingOf, endianOf, Put};
-use super::out::clear;
 use super::out::encoding_of;
 use super::out::endian_of;
 use super::out::put_entry;
@@ -19,6 +18,7 @@ use entries::cursor::EntriesCursor;
 use entries::cursor::Next;
 use entries::raw::EntriesRaw;
 use entries::raw::Outcome;
+use reader::fill::clear_words;
 use reader::twos::to_word;
 
 pub(crate) fn put_answer(out: &mut [u64], at: usize, answer: Next) -> usize
@@ -118,7 +118,7 @@ pub extern "C" fn tehkumir_cursor(
     match answer {
         Outcome::Done => {
             let end = run(cursor, bytes, rows, specs, calls, out);
-            clear(out, end);
+            clear_words(out, end);
             0
         }
         Outcome::Refused(e) => refuse(out, e),

@@ -10,7 +10,6 @@ ghost use Rattle.capi.specs.Words.{Gives, encodingOf, endianOf, Put};
 use super::cursor::put_answer;
 use super::cursor::put_raw;
 use super::out::bit_of;
-use super::out::clear;
 use super::out::encoding_of;
 use super::out::endian_of;
 use super::out::put;
@@ -18,6 +17,7 @@ use super::out::put_entry;
 use super::out::refuse;
 use entries::cursor::EntriesCursor;
 use entries::raw::Outcome;
+use reader::fill::clear_words;
 use reader::twos::from_word;
 use tree::tree::EntriesTree;
 use tree::tree::TreeNext;
@@ -105,7 +105,7 @@ pub extern "C" fn tehkumir_tree(
                 cursor,
             };
             let end = run(tree, bytes, rows, specs, levels, out);
-            clear(out, end);
+            clear_words(out, end);
             0
         }
         Outcome::Refused(e) => refuse(out, e),

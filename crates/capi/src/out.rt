@@ -1,9 +1,9 @@
 // Words stored one after another in a lent slice, as far as it has room.
 
-ghost use mathlib.Core.List.{[], _∷_, _++_, map};
+ghost use mathlib.Core.List.{[], _∷_, map};
 ghost use mathlib.Core.Path.{_≡_};
-ghost use Prim.Native.Nat.{_-_, _≤_};
-ghost use lib.ListN.{length, take, replicate};
+ghost use Prim.Native.Nat.{_≤_};
+ghost use lib.ListN.{length, take};
 ghost use Rattle.reader.specs.Errors.{numberOf};
 ghost use Rattle.attribute.specs.Views.{viewAttribute};
 ghost use Rattle.entries.specs.Views.{viewEntry};
@@ -14,6 +14,7 @@ use reader::common::Encoding;
 use reader::common::Format;
 use reader::endianity::RunTimeEndian;
 use reader::error::Error;
+use reader::fill::clear_words;
 use reader::twos::to_word;
 
 pub(crate) fn endian_of(is_big: bool) -> RunTimeEndian
@@ -60,23 +61,11 @@ pub(crate) fn put(out: &mut [u64], at: usize, w: u64) -> usize
     at
 }
 
-// Zeros behind the words.
-pub(crate) fn clear(out: &mut [u64], from: usize)
-    requires { ⌜ from ≤ length (now out) ⌝ }
-    ensures { λ _. ⌜ now (out .exit) ≡ take from (now (out .entry)) ++ replicate (length (now (out .entry)) - from) 0 ⌝ }
-{
-    let mut i = from;
-    while i < out.len() {
-        out[i] = 0;
-        i += 1;
-    }
-}
-
 // A refusal: its number, and no words.
 pub(crate) fn refuse(out: &mut [u64], error: Error) -> u64
     ensures { λ r. ⌜ Says (numberOf error) [] (now (out .entry)) (now (out .exit)) r ⌝ }
 {
-    clear(out, 0);
+    clear_words(out, 0);
     error.number()
 }
 
@@ -84,7 +73,7 @@ pub(crate) fn give1(out: &mut [u64], a: u64) -> u64
     ensures { λ r. ⌜ Says 0 (a ∷ []) (now (out .entry)) (now (out .exit)) r ⌝ }
 {
     let end = put(out, 0, a);
-    clear(out, end);
+    clear_words(out, end);
     0
 }
 
@@ -116,7 +105,7 @@ pub(crate) fn give2(out: &mut [u64], a: u64, b: u64) -> u64
     ensures { λ r. ⌜ Says 0 (a ∷ b ∷ []) (now (out .entry)) (now (out .exit)) r ⌝ }
 {
     let end = put2(out, 0, a, b);
-    clear(out, end);
+    clear_words(out, end);
     0
 }
 
@@ -124,7 +113,7 @@ pub(crate) fn give3(out: &mut [u64], a: u64, b: u64, c: u64) -> u64
     ensures { λ r. ⌜ Says 0 (a ∷ b ∷ c ∷ []) (now (out .entry)) (now (out .exit)) r ⌝ }
 {
     let end = put3(out, 0, a, b, c);
-    clear(out, end);
+    clear_words(out, end);
     0
 }
 

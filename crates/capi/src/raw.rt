@@ -14,7 +14,6 @@ ghost use Rattle.capi.specs.Words.{Gives, encodingOf, endianOf, Put};
 use super::cursor::put_answer;
 use super::cursor::put_raw;
 use super::out::bit_of;
-use super::out::clear;
 use super::out::encoding_of;
 use super::out::endian_of;
 use super::out::put_entry;
@@ -34,6 +33,7 @@ use lent::held::read_entry;
 use lent::held::skip_attributes;
 use reader::common::Encoding;
 use reader::endianity::RunTimeEndian;
+use reader::fill::clear_words;
 
 // What was passed by read_abbreviation and skip_attributes, and the state.
 pub struct Passed {
@@ -227,7 +227,7 @@ fn open_and_run(
     match EntriesRaw::new(bytes, start, encoding, endian) {
         Opened::Got(raw) => {
             let end = run(raw, bytes, rows, specs, calls, out, is_lent);
-            clear(out, end);
+            clear_words(out, end);
             0
         }
         Opened::Refused(e) => refuse(out, e),

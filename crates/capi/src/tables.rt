@@ -5,7 +5,6 @@ ghost use Rattle.abbrev.specs.Table.{entryLimit};
 ghost use Rattle.capi.specs.Tables.{TabledAs};
 ghost use Rattle.capi.specs.Words.{Gives, ifThere, foundWords};
 use super::out::bit_of;
-use super::out::clear;
 use super::out::give1;
 use super::out::put;
 use super::out::put5;
@@ -14,6 +13,7 @@ use abbrev::lookup::Lookup;
 use abbrev::lookup::get;
 use abbrev::table::Abbreviations;
 use abbrev::table::DebugAbbrev;
+use reader::fill::clear_words;
 
 // The table at an offset of .debug_abbrev into the rows, which are zero after a refusal. Words: how
 // many abbreviations it has.
@@ -51,7 +51,7 @@ pub extern "C" fn tehkumir_get(rows: &[u64], specs: &[u64], code: u64, out: &mut
                 found.first as u64,
                 found.count as u64,
             );
-            clear(out, end);
+            clear_words(out, end);
             0
         }
         Lookup::Absent => give1(out, 0),

@@ -10,7 +10,6 @@ ghost use Rattle.capi.specs.Units.{entryOr, entryIn};
 ghost use mathlib.Core.List.{_∷_};
 ghost use Prim.Native.Nat.{_≤_};
 ghost use lib.ListN.{length};
-use super::out::clear;
 use super::out::endian_of;
 use super::out::put;
 use super::out::put_entry;
@@ -22,6 +21,7 @@ use entries::open::EntryAt;
 use entries::open::entry;
 use entries::raw::Outcome;
 use reader::error::Error;
+use reader::fill::clear_words;
 use unit::header::UnitHeader;
 use unit::header::UnitType;
 use unit::parse::Header;
@@ -80,7 +80,7 @@ pub extern "C" fn tehkumir_unit_header(
     match DebugInfo::header_from_offset(section, offset, endian) {
         Header::Got(header, _) => {
             let end = put_header(out, 0, header);
-            clear(out, end);
+            clear_words(out, end);
             0
         }
         Header::Refused(e) => refuse(out, e),
@@ -108,16 +108,16 @@ pub extern "C" fn tehkumir_next_unit(
         NextUnit::Header(header) => {
             let second = put(out, first, 1);
             let end = put_header(out, second, header);
-            clear(out, end);
+            clear_words(out, end);
             0
         }
         NextUnit::NoMore => {
             let none = put(out, first, 0);
-            clear(out, none);
+            clear_words(out, none);
             0
         }
         NextUnit::Refused(e) => {
-            clear(out, first);
+            clear_words(out, first);
             e.number()
         }
     }
@@ -131,7 +131,7 @@ fn give_entry(out: &mut [u64], read: EntryAt) -> u64
     match answer {
         Outcome::Done => {
             let end = put_entry(out, 0, entry);
-            clear(out, end);
+            clear_words(out, end);
             0
         }
         Outcome::Refused(e) => refuse(out, e),

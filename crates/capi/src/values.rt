@@ -2,7 +2,6 @@
 
 ghost use Rattle.attribute.specs.Attributes.{readAttribute};
 ghost use Rattle.capi.specs.Words.{Gives, encodingOf, endianOf, specificationBy, readAttributeWords};
-use super::out::clear;
 use super::out::encoding_of;
 use super::out::endian_of;
 use super::out::put;
@@ -11,6 +10,7 @@ use super::out::refuse;
 use abbrev::lookup::AttributeSpecification;
 use attribute::parse::Parsed;
 use attribute::parse::parse_attribute;
+use reader::fill::clear_words;
 
 // The value at `at` by its specification, in a part of a unit that starts at the offset `start`. Words:
 // the next place, then name, form, the number of the case and its two numbers.
@@ -41,7 +41,7 @@ pub extern "C" fn tehkumir_read_attribute(
         Parsed::Got(attribute, next) => {
             let first = put(out, 0, next as u64);
             let end = put_attribute(out, first, attribute);
-            clear(out, end);
+            clear_words(out, end);
             0
         }
         Parsed::Refused(e) => refuse(out, e),

@@ -10,7 +10,7 @@ use Rattle.reader.specs.Answer.{Answer, got, refused, andThen, Read, gives}
 use Rattle.reader.specs.Sizes.{maxSection}
 use Rattle.reader.specs.declared.endianity.RunTimeEndian.{RunTimeEndian}
 use Rattle.reader.proofs.Answers.{then-then}
-use Rattle.abbrev.specs.Steps.{Blank}
+use Rattle.abbrev.specs.Rows.{Blank}
 use Rattle.abbrev.specs.Table.{entryLimit, abbreviationsAt}
 use Rattle.abbrev.specs.Tabled.{Tabled}
 use Rattle.abbrev.specs.Views.{viewAbbreviations}

@@ -16,7 +16,7 @@ use lib.Seq.{length-take-le}
 use Rattle.reader.specs.Sizes.{maxSection}
 use Rattle.reader.specs.Answer.{Answer, got, refused, andThen, Holds}
 use Rattle.attribute.proofs.FormLaws.{both}
-use Rattle.abbrev.specs.Rows.{Left}
+use Rattle.abbrev.specs.Rows.{tableRows, tableSpecs, Left}
 use Rattle.abbrev.specs.Table.{Declaration, entryLimit, abbreviationsAt}
 use Rattle.abbrev.proofs.Bounds.{Sound, sound}
 use Rattle.unit.specs.Header.{typeSize, sizeOfHeader, unitEnd}
@@ -27,7 +27,7 @@ use Rattle.entries.specs.Raw.{keepsRaw, movedTo}
 use Rattle.entries.specs.Steps.{KeptRaw}
 use Rattle.entries.specs.declared.raw.EntriesRaw.{EntriesRaw}
 use Rattle.entries.proofs.RawLaws.{raw-kept}
-use Rattle.listing.specs.Listing.{Placed, placeIn, placeOf, put, orStop, headLine, itemLines, tableRows, tableSpecs, entriesIn, beginning, stateAt, partLines, Shelf, unitEntries, unitAll}
+use Rattle.listing.specs.Listing.{Placed, placeIn, placeOf, put, orStop, headLine, itemLines, entriesIn, beginning, stateAt, partLines, Shelf, unitEntries, unitAll}
 use Rattle.listing.specs.Text.{Line, unitLine}
 use Rattle.listing.specs.Written.{Part, partOf, add, adds, Held, Added, Written, refusal, Fit}
 use Rattle.listing.specs.declared.list.Wrote.{Wrote}

@@ -15,7 +15,7 @@ use Rattle.reader.specs.Sizes.{maxSection}
 use Rattle.reader.specs.declared.endianity.RunTimeEndian.the-variants.{Little}
 use Rattle.attribute.proofs.FormLaws.{both}
 use Rattle.abbrev.specs.Lookup.{Found, lookup}
-use Rattle.abbrev.specs.Rows.{Row, rowsFrom, Laid}
+use Rattle.abbrev.specs.Rows.{Row, rowsFrom, Laid, tableRows, tableSpecs}
 use Rattle.abbrev.specs.Table.{Declaration}
 use Rattle.abbrev.proofs.Bounds.{Sound}
 use Rattle.abbrev.proofs.Lookups.{lookup-same}
@@ -29,7 +29,7 @@ use Rattle.entries.specs.Flat.{Reading, nothing, before, readOn, readWithin, re
 use Rattle.entries.specs.Raw.{sourceOf}
 use Rattle.entries.specs.declared.raw.EntriesRaw.{EntriesRaw}
 use Rattle.entries.specs.Read.{Source, known, abbreviationAt, entryAt, entryAfter, afterEntry}
-use Rattle.listing.specs.Listing.{Placed, placeOf, put, orStop, headLine, readLines, itemLines, tableRows, tableSpecs, Shelf, unitEntries, unitAll, unitsWithin, unitLines, innerLines}
+use Rattle.listing.specs.Listing.{Placed, placeOf, put, orStop, headLine, readLines, itemLines, Shelf, unitEntries, unitAll, unitsWithin, unitLines, innerLines}
 use Rattle.listing.specs.Text.{endLine, refusedLine}
 use Rattle.listing.specs.Written.{partOf, adds, Held, Added, Written}
 use Rattle.listing.specs.declared.list.Wrote.{Wrote}

@@ -8,7 +8,7 @@ use borrow.Author.Tests.{ltb-true}
 use lib.Dec.{ltb}
 use lib.ListN.{length, take, drop, replicate, length-append, take-append-drop}
 use lib.Seq.{length-take-le}
-use Rattle.abbrev.specs.Steps.{Blank}
+use Rattle.abbrev.specs.Rows.{Blank}
 use Rattle.listing.specs.Listed.{ListedAs}
 use Rattle.listing.specs.Listing.{Placed, placeOf, Shelf, listingFrom}
 use Rattle.listing.specs.Piece.{texts, room, fitting, firstPlace}

@@ -1,15 +1,15 @@
 -- What `shelflist` prints of two sections (document 01, "Readings"), as lines, each with the place that a listing can go on from.
 use mathlib.Core.Bool.{cond, _&&_}
-use mathlib.Core.List.{List, [], _∷_, _++_}
+use mathlib.Core.List.{List, [], _∷_}
 use Prim.Native.Nat.{ℕ, zero, suc, _+_, _-_, _*_, _/_}
 use lib.Dec.{eqb, leb}
 use lib.IntN.{ℤ, pos}
-use lib.ListN.{length, replicate}
+use lib.ListN.{length}
 use Rattle.reader.specs.Answer.{Answer, got, refused, andThen, ifSome}
 use Rattle.reader.specs.Fields.{wordSize}
 use Rattle.reader.specs.declared.endianity.RunTimeEndian.the-variants.{Little}
-use Rattle.abbrev.specs.Rows.{specWords, allSpecs, rowsWords, rowsFrom}
-use Rattle.abbrev.specs.Table.{Declaration, entryLimit, abbreviationsAt}
+use Rattle.abbrev.specs.Rows.{tableRows, tableSpecs}
+use Rattle.abbrev.specs.Table.{entryLimit, abbreviationsAt}
 use Rattle.unit.specs.Header.{sizeOfHeader}
 use Rattle.unit.specs.Range.{unitBytes, entriesBuf}
 use Rattle.unit.specs.Units.{nextUnit}
@@ -73,13 +73,6 @@ pub record Shelf : Type 0 where
   pub info : List ℕ
   pub rows : ℕ
   pub specs : ℕ
-
--- a table in so many lent words, in file order
-abbrev pub tableRows : ℕ → List Declaration → List ℕ
-tableRows m t = rowsWords (rowsFrom 0 t) ++ replicate (m - length t * 5) 0
-
-abbrev pub tableSpecs : ℕ → List Declaration → List ℕ
-tableSpecs k t = specWords (allSpecs t) ++ replicate (k - length (allSpecs t) * 3) 0
 
 -- the bytes of a unit's entries, out of its section
 abbrev pub entriesIn : UnitHeader → List ℕ → Answer (List ℕ)

@@ -1,10 +1,9 @@
 // The lines of a listing, written into a lent buffer.
 
-ghost use mathlib.Core.List.{_++_};
 ghost use mathlib.Core.Path.{_≡_};
-ghost use Prim.Native.Nat.{_+_, _-_, _^_, _≤_, _<_};
+ghost use Prim.Native.Nat.{_+_, _^_, _≤_, _<_};
 ghost use lib.IntN.{pos};
-ghost use lib.ListN.{length, take, replicate};
+ghost use lib.ListN.{length};
 ghost use Rattle.reader.specs.Sizes.{maxSection};
 ghost use Rattle.abbrev.specs.Table.{entryLimit};
 ghost use Rattle.entries.specs.Steps.{KeptRaw};
@@ -23,6 +22,7 @@ use entries::raw::Opened;
 use entries::raw::Outcome;
 use reader::endianity::RunTimeEndian;
 use reader::error::Error;
+use reader::fill::clear_bytes;
 use unit::header::UnitHeader;
 use unit::units::DebugInfoUnitHeadersIter;
 use unit::units::NextUnit;
@@ -31,18 +31,6 @@ use unit::units::NextUnit;
 pub struct Wrote {
     pub piece: Piece,
     pub stopped: bool,
-}
-
-// Zeros from a place on.
-fn clear(out: &mut [u8], from: usize)
-    requires { ⌜ from ≤ length (now out) ⌝ }
-    ensures { λ _. ⌜ now (out .exit) ≡ take from (now (out .entry)) ++ replicate (length (now (out .entry)) - from) 0 ⌝ }
-{
-    let mut i = from;
-    while i < out.len() {
-        out[i] = 0;
-        i += 1;
-    }
 }
 
 // A refusal is the last line.
@@ -333,7 +321,7 @@ pub fn list(
     };
     let piece = list_from(place, abbrevs, info, rows, specs, out, none);
     wipe(rows, specs);
-    clear(out, piece.end);
+    clear_bytes(out, piece.end);
     let first = piece.place;
     Listed {
         bytes: piece.end,

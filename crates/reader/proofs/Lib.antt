@@ -7,6 +7,7 @@ pub mod LebLaws
 pub mod Accepted
 pub mod LimitLaws
 pub mod FieldLaws
+pub mod FillLaws
 pub mod Determined
 pub mod PrefixLaws
 pub mod Counts

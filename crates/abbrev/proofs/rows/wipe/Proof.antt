@@ -16,4 +16,4 @@ wipe-spec =
     -- returns
     (λ c.
     let e : (x : ℕ) → x - 0 ≡ x = λ x. omega arith in
-    record { no-rows = rw (e _) at (c .before .before .before .before .before .before .clear .ensures); no-specs = rw (e _) at (c .before .before .clear2 .ensures) }))
+    record { no-rows = rw (e _) at (c .before .before .before .before .before .before .clear-words .ensures); no-specs = rw (e _) at (c .before .before .clear-words2 .ensures) }))

@@ -21,7 +21,7 @@ tehkumir-tree-spec =
     (λ c κs. search needs)
     (λ c. search needs)
     -- returns
-    (λ c. rw (← c .before .before .before .before .before .before .before .before .before .before .before .before .endian-of .ensures, ← c .before .before .before .before .before .before .before .before .before .before .before .before .before .encoding-of .ensures, ← cursor-back (entryLimit .most) (c .before .before .before .before .before .before .before .before .before .before .before .before .endian-of .result) (openedCursor (entryLimit .most) (length (c .before .before .before .before .before .before .before .before .before .before .before .before .before .before .before .before .before .before .before .args .bytes .now)) (c .before .before .before .before .before .before .before .before .before .before .before .before .before .before .before .before .before .before .before .args .start) (c .before .before .before .before .before .before .before .before .before .before .before .before .before .encoding-of .result) (c .before .before .before .before .before .before .before .before .before .before .before .before .endian-of .result)) (c .before .before .before .before .before .before .before .before .before .before .before .new .ensures), c .before .before .before .before .before .before .before .before .enum-told .given .1) (said (c .before .before .before .before .before .before .run .ensures) (c .before .before .before .before .before .before .run .kept .1 .1 .1 .1 .1 .0) (c .before .before .clear .ensures)))
+    (λ c. rw (← c .before .before .before .before .before .before .before .before .before .before .before .before .endian-of .ensures, ← c .before .before .before .before .before .before .before .before .before .before .before .before .before .encoding-of .ensures, ← cursor-back (entryLimit .most) (c .before .before .before .before .before .before .before .before .before .before .before .before .endian-of .result) (openedCursor (entryLimit .most) (length (c .before .before .before .before .before .before .before .before .before .before .before .before .before .before .before .before .before .before .before .args .bytes .now)) (c .before .before .before .before .before .before .before .before .before .before .before .before .before .before .before .before .before .before .before .args .start) (c .before .before .before .before .before .before .before .before .before .before .before .before .before .encoding-of .result) (c .before .before .before .before .before .before .before .before .before .before .before .before .endian-of .result)) (c .before .before .before .before .before .before .before .before .before .before .before .new .ensures), c .before .before .before .before .before .before .before .before .enum-told .given .1) (said (c .before .before .before .before .before .before .run .ensures) (c .before .before .before .before .before .before .run .kept .1 .1 .1 .1 .1 .0) (c .before .before .clear-words .ensures)))
     (λ c. search needs)
     -- returns-2
     (λ c. rw (← c .before .before .before .before .before .before .before .before .before .endian-of .ensures, ← c .before .before .before .before .before .before .before .before .before .before .encoding-of .ensures, ← cursor-back (entryLimit .most) (c .before .before .before .before .before .before .before .before .before .endian-of .result) (openedCursor (entryLimit .most) (length (c .before .before .before .before .before .before .before .before .before .before .before .before .before .before .before .before .args .bytes .now)) (c .before .before .before .before .before .before .before .before .before .before .before .before .before .before .before .before .args .start) (c .before .before .before .before .before .before .before .before .before .before .encoding-of .result) (c .before .before .before .before .before .before .before .before .before .endian-of .result)) (c .before .before .before .before .before .before .before .before .new .ensures), c .before .before .before .before .before .answer .given .1) (c .before .before .refuse .ensures)))

@@ -11,4 +11,4 @@ give2-spec =
     (λ c κs. search needs)
     (λ c. search needs)
     -- returns
-    (λ c. said (c .before .before .before .before .before .before .put2 .ensures) (c .before .before .before .before .before .before .put2 .kept .0) (c .before .before .clear .ensures)))
+    (λ c. said (c .before .before .before .before .before .before .put2 .ensures) (c .before .before .before .before .before .before .put2 .kept .0) (c .before .before .clear-words .ensures)))

@@ -11,4 +11,4 @@ give3-spec =
     (λ c κs. search needs)
     (λ c. search needs)
     -- returns
-    (λ c. said (c .before .before .before .before .before .before .put3 .ensures) (c .before .before .before .before .before .before .put3 .kept .0) (c .before .before .clear .ensures)))
+    (λ c. said (c .before .before .before .before .before .before .put3 .ensures) (c .before .before .before .before .before .before .put3 .kept .0) (c .before .before .clear-words .ensures)))

@@ -11,4 +11,4 @@ refuse-spec =
     (λ c κs. search needs)
     (λ c. search needs)
     -- returns
-    (λ c. rw (c .number .ensures) (said-none _ (c .before .before .before .clear .ensures))))
+    (λ c. rw (c .number .ensures) (said-none _ (c .before .before .before .clear-words .ensures))))

@@ -15,7 +15,7 @@ open-and-run-spec =
     (λ c κs. search needs)
     (λ c. search needs)
     -- returns
-    (λ c. rw (← c .before .before .before .before .before .before .before .before .before .before .before .new .ensures, c .before .before .before .before .before .before .before .before .before .raw .given .1) (said (c .before .before .before .before .before .before .run .ensures) (c .before .before .before .before .before .before .run .kept .1 .1 .1 .1 .1 .0) (c .before .before .clear .ensures)))
+    (λ c. rw (← c .before .before .before .before .before .before .before .before .before .before .before .new .ensures, c .before .before .before .before .before .before .before .before .before .raw .given .1) (said (c .before .before .before .before .before .before .run .ensures) (c .before .before .before .before .before .before .run .kept .1 .1 .1 .1 .1 .0) (c .before .before .clear-words .ensures)))
     (λ c. search needs)
     -- returns-2
     (λ c. rw (← c .before .before .before .before .before .before .before .new .ensures, c .before .before .before .before .before .e .given .1) (c .before .before .refuse .ensures)))

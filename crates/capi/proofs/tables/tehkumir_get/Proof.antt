@@ -21,7 +21,7 @@ tehkumir-get-spec =
     (λ c κs. search needs)
     (λ c. search needs)
     -- returns
-    (λ c. rw (← c .before .before .before .before .before .before .before .before .before .before .before .before .before .before .before .before .before .get .ensures, c .before .before .before .before .before .before .before .before .before .before .before .before .before .before .before .found .given .1, ← c .before .before .before .before .before .before .before .before .before .before .before .before .before .bit-of .ensures) (said (put-then (c .before .before .before .before .before .before .before .before .before .before .before .put .ensures) (c .before .before .before .before .before .before .before .before .before .before .before .put .kept .0) (c .before .before .before .before .before .before .put5 .ensures)) (c .before .before .before .before .before .before .put5 .kept .0 ∙ c .before .before .before .before .before .before .before .before .before .before .before .put .kept .0) (c .before .before .clear .ensures)))
+    (λ c. rw (← c .before .before .before .before .before .before .before .before .before .before .before .before .before .before .before .before .before .get .ensures, c .before .before .before .before .before .before .before .before .before .before .before .before .before .before .before .found .given .1, ← c .before .before .before .before .before .before .before .before .before .before .before .before .before .bit-of .ensures) (said (put-then (c .before .before .before .before .before .before .before .before .before .before .before .put .ensures) (c .before .before .before .before .before .before .before .before .before .before .before .put .kept .0) (c .before .before .before .before .before .before .put5 .ensures)) (c .before .before .before .before .before .before .put5 .kept .0 ∙ c .before .before .before .before .before .before .before .before .before .before .before .put .kept .0) (c .before .before .clear-words .ensures)))
     (λ c. search needs)
     -- returns-2
     (λ c. rw (← c .before .before .before .before .before .before .get .ensures, c .before .before .before .before .enum-told .given .1) (c .before .before .give1 .ensures))

@@ -14,7 +14,7 @@ give-entry-spec =
     (λ c κs. search needs)
     (λ c. search needs)
     -- returns
-    (λ c. rw (c .before .before .before .before .before .before .before .before .enum-told .given .1) (said (c .before .before .before .before .before .before .put-entry .ensures) (c .before .before .before .before .before .before .put-entry .kept .0) (c .before .before .clear .ensures)))
+    (λ c. rw (c .before .before .before .before .before .before .before .before .enum-told .given .1) (said (c .before .before .before .before .before .before .put-entry .ensures) (c .before .before .before .before .before .before .put-entry .kept .0) (c .before .before .clear-words .ensures)))
     (λ c. search needs)
     -- returns-2
     (λ c. rw (c .before .before .before .before .before .answer .given .1) (c .before .before .refuse .ensures)))

@@ -19,7 +19,7 @@ tehkumir-read-attribute-spec =
     (λ c κs. search needs)
     (λ c. search needs)
     -- returns
-    (λ c. rw (← c .before .before .before .before .before .before .before .before .before .before .before .before .before .before .before .before .endian-of .ensures, ← c .before .before .before .before .before .before .before .before .before .before .before .before .before .before .before .before .before .encoding-of .ensures, ← c .before .before .before .before .before .before .before .before .before .before .before .before .before .before .before .parse-attribute .ensures, c .before .before .before .before .before .before .before .before .before .before .before .before .before .attribute .given .1) (said (put-then (c .before .before .before .before .before .before .before .before .before .before .put .ensures) (c .before .before .before .before .before .before .before .before .before .before .put .kept .0) (c .before .before .before .before .before .before .put-attribute .ensures)) (c .before .before .before .before .before .before .put-attribute .kept .0 ∙ c .before .before .before .before .before .before .before .before .before .before .put .kept .0) (c .before .before .clear .ensures)))
+    (λ c. rw (← c .before .before .before .before .before .before .before .before .before .before .before .before .before .before .before .before .endian-of .ensures, ← c .before .before .before .before .before .before .before .before .before .before .before .before .before .before .before .before .before .encoding-of .ensures, ← c .before .before .before .before .before .before .before .before .before .before .before .before .before .before .before .parse-attribute .ensures, c .before .before .before .before .before .before .before .before .before .before .before .before .before .attribute .given .1) (said (put-then (c .before .before .before .before .before .before .before .before .before .before .put .ensures) (c .before .before .before .before .before .before .before .before .before .before .put .kept .0) (c .before .before .before .before .before .before .put-attribute .ensures)) (c .before .before .before .before .before .before .put-attribute .kept .0 ∙ c .before .before .before .before .before .before .before .before .before .before .put .kept .0) (c .before .before .clear-words .ensures)))
     (λ c. search needs)
     -- returns-2
     (λ c. rw (← c .before .before .before .before .before .before .before .before .endian-of .ensures, ← c .before .before .before .before .before .before .before .before .before .encoding-of .ensures, ← c .before .before .before .before .before .before .before .parse-attribute .ensures, c .before .before .before .before .before .e .given .1) (c .before .before .refuse .ensures)))

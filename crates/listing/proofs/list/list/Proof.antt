@@ -13,8 +13,8 @@ list-from-requires c κs = empty-held _ _
 wipe-requires : tie.Need-wipe-requires
 wipe-requires c κs = search needs
 
-clear-requires : tie.Need-clear-requires
-clear-requires c κs = omega (arith, c .before .before .before .before .before .before .before .before .before .before .before .before .before .before .list-from .ensures .held .inside)
+clear-bytes-requires : tie.Need-clear-bytes-requires
+clear-bytes-requires c κs = omega (arith, c .before .before .before .before .before .before .before .before .before .before .before .before .before .before .list-from .ensures .held .inside)
 
 same-length : tie.Need-same-length
 same-length c = search needs
@@ -26,7 +26,7 @@ same-length-3 : tie.Need-same-length-3
 same-length-3 c = search needs
 
 returns : tie.Need-returns
-returns c = let a = c .before .before .before .before .before .before .before .before .before .before .before .before .before .before .before .before .before .before .before .before .before .before .before .before .before .before .before .before .args in listed-whole (a .abbrevs .now) (a .info .now) (a .rows .now) (a .specs .now) (a .place) (a .out .now) _ _ _ (c .before .before .before .before .before .before .before .before .before .before .before .before .before .before .before .before .before .before .before .before .before .before .unit-place .ensures) (c .before .before .before .before .before .before .before .before .before .before .before .before .before .before .before .before .before .before .list-from .ensures) (c .before .before .before .before .before .before .before .before .before .before .before .before .before .before .before .before .before .before .list-from .kept .1 .1 .1 .0) (c .before .before .before .before .before .before .before .before .before .before .before .before .before .before .before .before .before .before .list-from .kept .1 .1 .1 .1 .0) (c .before .before .before .before .before .before .before .before .before .before .before .before .before .before .before .before .before .before .list-from .kept .1 .1 .1 .1 .1 .0) (c .before .before .before .clear .ensures) (c .before .before .before .before .before .before .before .before .before .wipe .ensures)
+returns c = let a = c .before .before .before .before .before .before .before .before .before .before .before .before .before .before .before .before .before .before .before .before .before .before .before .before .before .before .before .before .args in listed-whole (a .abbrevs .now) (a .info .now) (a .rows .now) (a .specs .now) (a .place) (a .out .now) _ _ _ (c .before .before .before .before .before .before .before .before .before .before .before .before .before .before .before .before .before .before .before .before .before .before .unit-place .ensures) (c .before .before .before .before .before .before .before .before .before .before .before .before .before .before .before .before .before .before .list-from .ensures) (c .before .before .before .before .before .before .before .before .before .before .before .before .before .before .before .before .before .before .list-from .kept .1 .1 .1 .0) (c .before .before .before .before .before .before .before .before .before .before .before .before .before .before .before .before .before .before .list-from .kept .1 .1 .1 .1 .0) (c .before .before .before .before .before .before .before .before .before .before .before .before .before .before .before .before .before .before .list-from .kept .1 .1 .1 .1 .1 .0) (c .before .before .before .clear-bytes .ensures) (c .before .before .before .before .before .before .before .before .before .wipe .ensures)
 
 pub list-spec : {M : Type 1} → statement M
 list-spec =
@@ -35,7 +35,7 @@ list-spec =
     unit-place-requires
     list-from-requires
     wipe-requires
-    clear-requires
+    clear-bytes-requires
     same-length
     same-length-2
     same-length-3

@@ -22,22 +22,16 @@ abbreviations-spec =
     (λ c. tabled-refused error.UnexpectedEof (outside _ _ _ _ _ (c .before .before .before .before .before .before .before .before .if1 .left) (c .before .before .before .before .before .before .before .if2 .taken)) (c .before .before .before .before .wipe2 .ensures))
     (λ c κs. search needs)
     (λ c. search needs)
-    -- mul-clear
+    -- mul-clear-words
     (λ c.
     let t = rw (c .before .before .n .given .1) at (c .before .before .before .before .before .before .before .before .parse .ensures) in
     omega (arith, t .row, c .before .before .before .before .before .before .before .before .parse .kept .1 .1 .0, c .before .before .before .before .before .before .before .before .before .before .before .before .before .before .before .before .good .1 .1 .0))
-    -- clear-requires
-    (λ c κs.
-    let t = rw (c .before .before .n .given .1) at (c .before .before .before .before .before .before .before .before .parse .ensures) in
-    omega (arith, t .row))
-    -- mul-clear-2
+    (λ c κs. search needs)
+    -- mul-clear-words-2
     (λ c.
     let t = rw (c .before .before .before .before .before .before .n .given .1) at (c .before .before .before .before .before .before .before .before .before .before .before .before .parse .ensures) in
     omega (arith, t .room, c .before .before .before .before .before .before .before .before .before .before .before .before .parse .kept .1 .1 .1 .0, c .before .before .before .before .before .before .before .before .before .before .before .before .before .before .before .before .before .before .before .before .good .1 .1 .1 .0))
-    -- clear-requires-2
-    (λ c κs.
-    let t = rw (c .before .before .before .before .before .before .n .given .1) at (c .before .before .before .before .before .before .before .before .before .before .before .before .parse .ensures) in
-    omega (arith, t .room))
+    (λ c κs. search needs)
     (λ c. search needs)
     (λ c κs. search needs)
     (λ c. search needs)
@@ -45,7 +39,7 @@ abbreviations-spec =
     -- returns-3
     (λ c.
     let t = rw (c .before .before .before .before .before .before .before .before .before .n .given .1) at (c .before .before .before .before .before .before .before .before .before .before .before .before .before .before .before .parse .ensures) in
-    let l = rw (c .before .before .before .before .before .before .before .before .before .before .before .before .before .before .before .parse .kept .1 .1 .0, c .before .before .before .before .before .before .before .before .before .before .before .before .before .before .before .parse .kept .1 .1 .1 .0) at (laid t _ _ (c .before .before .before .before .before .before .clear .ensures) (c .before .before .clear2 .ensures)) in
+    let l = rw (c .before .before .before .before .before .before .before .before .before .before .before .before .before .before .before .parse .kept .1 .1 .0, c .before .before .before .before .before .before .before .before .before .before .before .before .before .before .before .parse .kept .1 .1 .1 .0) at (laid t _ _ (c .before .before .before .before .before .before .clear-words .ensures) (c .before .before .clear-words2 .ensures)) in
     tabled-got (t .done) (within _ _ _ _ _ (c .before .before .before .before .before .before .before .before .before .before .before .before .before .before .before .before .before .before .before .if1 .left) (c .before .before .before .before .before .before .before .before .before .before .before .before .before .before .before .before .before .before .if2 .left) ∙ t .is) (t .count-is) l)
     (λ c. search needs)
     (λ c. search needs)

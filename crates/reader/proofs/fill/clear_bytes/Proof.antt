@@ -1,10 +1,10 @@
 use Prim.Native.Nat.{_-_}
-use Rattle.abbrev.proofs.Stores.{Cleared, clear-begun, clear-further, clear-ended}
+use Rattle.reader.proofs.FillLaws.{Cleared, clear-begun, clear-further, clear-ended}
 use borrow.Author.Needs.{needs}
 use lib.ListN.{length, length-set}
 use native.Mathlib.Omega.{arith}
-use Rattle.abbrev.proofs.rows.clear.Statement.{statement}
-use Rattle.abbrev.proofs.rows.clear.Tie as tie
+use Rattle.reader.proofs.fill.clear_bytes.Statement.{statement}
+use Rattle.reader.proofs.fill.clear_bytes.Tie as tie
 
 abbrev Inv-loop : tie.InvT-loop
 Inv-loop l₀ from i₀ l i = Cleared l₀ from l i
@@ -12,15 +12,14 @@ Inv-loop l₀ from i₀ l i = Cleared l₀ from l i
 abbrev μ-loop : tie.MeasureT-loop
 μ-loop l₀ from i₀ l i = length l - i
 
-pub clear-spec : {M : Type 1} → statement M
-clear-spec =
+pub clear-bytes-spec : {M : Type 1} → statement M
+clear-bytes-spec =
     tie.close
     (tie.spec
     Inv-loop
     μ-loop
     -- loop-holds
-    (λ c. clear-begun _ _ (c .pre))
-    (λ c. search needs)
+    (λ c. clear-begun _ _)
     (λ c. search needs)
     (λ c. search needs)
     -- loop-less
