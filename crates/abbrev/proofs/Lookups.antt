@@ -13,7 +13,7 @@ use lib.ListN.{length, take, drop, getD, replicate, length-append}
 use lib.Seq.{getD-take, getD-drop, take-at, drop-at}
 use Rattle.reader.specs.Answer.{Answer, got, refused, andThen, Holds}
 use Rattle.reader.proofs.Answers.{cond-by}
-use Rattle.abbrev.specs.Lookup.{column, indexOf, specAt, specsFrom, fair, allFair, specificationAt, attributeAt, Found, rowAt, specsKept, keepsSizes, judgedRow, rowFound, leading, lookup, declarationOf, declaredIn}
+use Rattle.abbrev.specs.Lookup.{column, indexOf, specAt, specsFrom, fair, allFair, specificationAt, specificationIn, Found, rowAt, specsKept, keepsSizes, judgedRow, rowFound, leading, lookup, declarationOf, declaredIn}
 use Rattle.abbrev.specs.Rows.{specWords, allSpecs, Row, rowWords, rowsWords, rowsFrom, Laid, Left}
 use Rattle.abbrev.specs.Table.{Specification, Declaration, Limit, abbreviationsAt}
 use Rattle.abbrev.proofs.Attributes.{words-append}
@@ -294,8 +294,8 @@ kept most specs f k =
 
 -- each of them is there, and is the declaration's
 pub attribute-nth : (most : ℕ) (specs : List ℕ) (f : Found) (i : ℕ) (d : Specification) → keepsSizes most specs f ≡ true → i < f .count
-    → attributeAt specs f i ≡ got (some (getD (declarationOf specs f .specifications) i d))
-unfolding attributeAt specificationAt
+    → specificationIn specs f i ≡ got (some (getD (declarationOf specs f .specifications) i d))
+unfolding specificationIn specificationAt
 attribute-nth most specs f i d k h =
     let l = drop (f .first * 3) specs in
     let b = kept most specs f k in

@@ -1,4 +1,4 @@
--- A code looked up in rows that anybody may have written.
+-- A code (DWARF 2 to 5, 7.5.2) looked up in rows that anybody may have written.
 use mathlib.Core.Bool.{Bool, true, false, cond, _&&_}
 use mathlib.Core.List.{List, [], _∷_}
 use mathlib.Core.Option.{Option, none, some, Option·map}
@@ -98,8 +98,8 @@ specificationAt specs i =
     cond (ltb i (length specs / 3)) (cond (fair (specAt specs (i * 3))) (got (some (specAt specs (i * 3)))) (refused 1)) (got none)
 
 -- the i-th specification of a found row
-unfoldable pub attributeAt : List ℕ → Found → ℕ → Answer (Option Specification)
-attributeAt specs f i = cond (ltb i (f .count)) (specificationAt specs (f .first + i)) (got none)
+unfoldable pub specificationIn : List ℕ → Found → ℕ → Answer (Option Specification)
+specificationIn specs f i = cond (ltb i (f .count)) (specificationAt specs (f .first + i)) (got none)
 
 -- the constant of DW_FORM_implicit_const
 unfoldable pub implicitConstOf : Specification → Option ℤ

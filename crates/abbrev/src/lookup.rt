@@ -4,7 +4,7 @@ ghost use mathlib.Core.Path.{_≡_};
 ghost use Prim.Native.Nat.{_+_, _*_, _/_, _≤_};
 ghost use lib.Dec.{eqb};
 ghost use lib.ListN.{length, drop};
-ghost use Rattle.abbrev.specs.Lookup.{specsFrom, allFair, specsKept, keepsSizes, judgedRow, rowFound, leading, lookup, specificationAt, attributeAt, implicitConstOf};
+ghost use Rattle.abbrev.specs.Lookup.{specsFrom, allFair, specsKept, keepsSizes, judgedRow, rowFound, leading, lookup, specificationAt, specificationIn, implicitConstOf};
 ghost use Rattle.abbrev.specs.Table.{entryLimit};
 ghost use Rattle.abbrev.specs.Views.{viewLookup, viewSpecified, viewConstant, foundOf, specificationOf};
 use super::rows::find;
@@ -210,7 +210,7 @@ impl Abbreviation {
 
     // gimli's `attributes`, by number.
     pub fn attribute(self, specs: &[u64], i: usize) -> Specified
-        ensures { λ r. ⌜ viewSpecified r ≡ attributeAt (now (specs .entry)) (foundOf self) i ⌝ }
+        ensures { λ r. ⌜ viewSpecified r ≡ specificationIn (now (specs .entry)) (foundOf self) i ⌝ }
     {
         let first = self.first;
         let count = self.count;

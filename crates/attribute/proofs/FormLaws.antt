@@ -16,7 +16,7 @@ use Rattle.reader.specs.declared.common.Encoding.{Encoding}
 use Rattle.reader.specs.declared.common.Format.{Format}
 use Rattle.reader.specs.declared.common.Format.the-variants.{Dwarf32, Dwarf64}
 use Rattle.attribute.specs.Forms.{Form, form, forms, rowOf, rowIn, row, caseOf}
-use Rattle.attribute.specs.Skip.{layoutSize, attributeSize}
+use Rattle.attribute.specs.Skip.{endingOf, sizeOf, attributeSize}
 use Rattle.attribute.specs.Steps.{widthBy, isWide, Fits, Extends, classOf, classSize}
 use Rattle.attribute.specs.Value.{allowSectionOffset, isSectionOffset}
 use Rattle.attribute.specs.declared.form.Kind.{Kind}
@@ -115,12 +115,12 @@ row-paired f =
 
 -- DW_FORM_indirect has no row
 pub indirect-open : (c : Encoding) → attributeSize 0x16 c ≡ none
-unfolding attributeSize row rowIn forms layoutSize
+unfolding attributeSize row rowIn forms endingOf
 indirect-open c = refl
 
 -- a class is a layout's size
-pub class-size : (c : Encoding) (l : Layout) → classSize (classOf l) c ≡ layoutSize c l
-unfolding layoutSize
+pub class-size : (c : Encoding) (l : Layout) → classSize (classOf l) c ≡ sizeOf (endingOf c l)
+unfolding endingOf
 class-size c L.U8 = refl
 class-size c L.U16 = refl
 class-size c L.U24 = refl

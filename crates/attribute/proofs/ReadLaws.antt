@@ -23,8 +23,8 @@ use Rattle.reader.proofs.FieldLaws.{skip-in, skip-there, skip-skip, word-end, h
 use Rattle.reader.proofs.WordLaws.{WordIn, word-in}
 use Rattle.abbrev.specs.Table.{Specification}
 use Rattle.attribute.specs.Forms.{row, caseOf, indirect}
-use Rattle.attribute.specs.Read.{Numbers, numbered, wideAt, signedAt, refAddrAt, blockAfter, stringAt, constantOf, rawAt, resolve, finalForm, formAt, attributeAt, attributesAt}
-use Rattle.attribute.specs.Skip.{refAddrSize, layoutSize, attributeSize, pastBlock, pastLayout, pastValue, pastValues}
+use Rattle.attribute.specs.Read.{Numbers, numbered, wideAt, signedAt, refAddrSize, refAddrAt, blockAfter, stringAt, constantOf, rawAt, resolve, finalForm, formAt, attributeAt, attributesAt}
+use Rattle.attribute.specs.Skip.{Ending, sized, ended, counted, measured, unknown, endingOf, sizeOf, attributeSize, pastBlock, pastEnding, pastLayout, pastValue, pastValues}
 use Rattle.attribute.specs.Steps.{Fits, widthBy, passedAddress, passedConstant}
 use Rattle.attribute.specs.declared.form.Layout.{Layout}
 use Rattle.attribute.specs.declared.form.Layout.the-variants as L
@@ -162,7 +162,7 @@ signeds-as s at = holds-then (λ v. Ends s at 64 (v .next)) (λ (v : Read Number
 -- whatever stands there, skipping it ends on the same byte
 pub raw-past : (s : List ℕ) (start : ℕ) (c : Encoding) (e : RunTimeEndian) (x : Specification) (l : Layout) (at : ℕ) → at ≤ length s
     → Holds (λ n. pastLayout s c e l at ≡ got (n .next)) (rawAt s start c e x l at)
-unfolding rawAt pastLayout
+unfolding rawAt pastLayout endingOf
 raw-past s start c e x L.U8 at h = words-as s at 1 e
 raw-past s start c e x L.U16 at h = words-as s at 2 e
 raw-past s start c e x L.U24 at h = words-as s at 3 e
@@ -201,27 +201,16 @@ word-onward s at n e = holds-map (WordIn s at n) (λ v. Onward s at (v .next)) (
 uleb-onward : (s : List ℕ) (at w : ℕ) → Holds (λ v. Onward s at (v .next)) (ulebAt s at w)
 uleb-onward s at w = holds-map (λ v. Ends s at w (v .next)) (λ v. Onward s at (v .next)) (ulebAt s at w) (λ v y. record { from = omega (arith, y .above); within = y .within }) (uleb-ends s at w)
 
+ending-onward : (s : List ℕ) (e : RunTimeEndian) (x : Ending) (at : ℕ) → Holds (Onward s at) (pastEnding s e x at)
+ending-onward s e (sized n) at = skip-onward s at n
+ending-onward s e (ended m) at = past-onward s at m
+ending-onward s e (counted n) at = past-block-onward s at (wordAt s at n e) (word-onward s at n e)
+ending-onward s e measured at = past-block-onward s at (ulebAt s at 64) (uleb-onward s at 64)
+ending-onward s e unknown at = tt
+
 pub layout-onward : (s : List ℕ) (c : Encoding) (e : RunTimeEndian) (l : Layout) (at : ℕ) → Holds (Onward s at) (pastLayout s c e l at)
 unfolding pastLayout
-layout-onward s c e L.U8 at = skip-onward s at 1
-layout-onward s c e L.U16 at = skip-onward s at 2
-layout-onward s c e L.U24 at = skip-onward s at 3
-layout-onward s c e L.U32 at = skip-onward s at 4
-layout-onward s c e L.U64 at = skip-onward s at 8
-layout-onward s c e L.U128 at = skip-onward s at 16
-layout-onward s c e L.Offset at = skip-onward s at (wordSize (c .format))
-layout-onward s c e L.Address at = skip-onward s at (c .«address_size»)
-layout-onward s c e L.RefAddr at = skip-onward s at (refAddrSize c)
-layout-onward s c e L.Uleb128 at = past-onward s at 128
-layout-onward s c e L.Sleb128 at = past-onward s at 128
-layout-onward s c e L.Block1 at = past-block-onward s at (wordAt s at 1 e) (word-onward s at 1 e)
-layout-onward s c e L.Block2 at = past-block-onward s at (wordAt s at 2 e) (word-onward s at 2 e)
-layout-onward s c e L.Block4 at = past-block-onward s at (wordAt s at 4 e) (word-onward s at 4 e)
-layout-onward s c e L.Block at = past-block-onward s at (ulebAt s at 64) (uleb-onward s at 64)
-layout-onward s c e L.NullTerminated at = past-onward s at 1
-layout-onward s c e L.Present at = skip-onward s at 0
-layout-onward s c e L.ImplicitConst at = skip-onward s at 0
-layout-onward s c e L.Unknown at = tt
+layout-onward s c e l at = ending-onward s e (endingOf c l) at
 
 -- past a value is not before it, and in the bytes
 pub value-onward : (s : List ℕ) (c : Encoding) (e : RunTimeEndian) (f at : ℕ) → at ≤ length s → Holds (Onward s at) (pastValue s c e f at)
@@ -394,33 +383,18 @@ module _ {s : List ℕ} {f at g p : ℕ} (t : Turned s f at g p) where
 pub past-stays : (s : List ℕ) (at m : ℕ) {p : ℕ} → pastAt s at m ≡ got p → skipAt s p 0 ≡ pastAt s at m
 past-stays s at m {p} e = let z = rw e at (past-in s at m) in stays s p (z .1) ∙ sym e
 
-sized : (s : List ℕ) (c : Encoding) (e : RunTimeEndian) (n at : ℕ) (l : Layout) → layoutSize c l ≡ some n → pastLayout s c e l at ≡ skipAt s at n
-unfolding layoutSize pastLayout
-sized s c e n at L.U8 h = cc
-sized s c e n at L.U16 h = cc
-sized s c e n at L.U24 h = cc
-sized s c e n at L.U32 h = cc
-sized s c e n at L.U64 h = cc
-sized s c e n at L.U128 h = cc
-sized s c e n at L.Offset h = cc
-sized s c e n at L.Address h = cc
-sized s c e n at L.RefAddr h = cc
-sized s c e n at L.Uleb128 h = cc
-sized s c e n at L.Sleb128 h = cc
-sized s c e n at L.Block1 h = cc
-sized s c e n at L.Block2 h = cc
-sized s c e n at L.Block4 h = cc
-sized s c e n at L.Block h = cc
-sized s c e n at L.NullTerminated h = cc
-sized s c e n at L.Present h = cc
-sized s c e n at L.ImplicitConst h = cc
-sized s c e n at L.Unknown h = cc
+size-past : (s : List ℕ) (e : RunTimeEndian) (n at : ℕ) (x : Ending) → sizeOf x ≡ some n → pastEnding s e x at ≡ skipAt s at n
+size-past s e n at (sized m) h = cc
+size-past s e n at (ended m) h = cc
+size-past s e n at (counted m) h = cc
+size-past s e n at measured h = cc
+size-past s e n at unknown h = cc
 
 -- 01, `get_attribute_size`: a form that has a size is skipped by it
 pub sized-past : (s : List ℕ) (c : Encoding) (e : RunTimeEndian) (f n at : ℕ) → attributeSize f c ≡ some n → pastValue s c e f at ≡ skipAt s at n
-unfolding pastValue attributeSize
+unfolding pastValue pastLayout attributeSize
 sized-past s c e f n at h =
-    rw (final-plain s f at (ne-eqb f 0x16 (λ q. let z : none ≡ some n = sym (indirect-open c) ∙ ap (λ (k : ℕ). attributeSize k c) (sym q) ∙ h in let y : _≡_ {A = ℕ} 0 1 = cc in omega arith))) (sized s c e n at (row f .layout) h)
+    rw (final-plain s f at (ne-eqb f 0x16 (λ q. let z : none ≡ some n = sym (indirect-open c) ∙ ap (λ (k : ℕ). attributeSize k c) (sym q) ∙ h in let y : _≡_ {A = ℕ} 0 1 = cc in omega arith))) (size-past s e n at (endingOf c (row f .layout)) h)
 
 -- so it is where a sum is yet to move by
 pub sized-sum : (s : List ℕ) (c : Encoding) (e : RunTimeEndian) (f n at sum : ℕ) → attributeSize f c ≡ some n → andThen (skipAt s at sum) (λ p. pastValue s c e f p) ≡ skipAt s at (sum + n)

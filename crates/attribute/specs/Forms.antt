@@ -1,4 +1,5 @@
--- Forms: DWARF 5, 7.5.5 and 7.5.6; DWARF 2 to 4, 7.5.4; the GNU extensions.
+-- Forms: DWARF 5, 7.5.5 and 7.5.6; DWARF 2 to 4, 7.5.4. The GNU extensions are in binutils' include/dwarf2.def:
+-- 0x1f01 and 0x1f02 come from the GCC wiki's page DebugFission, 0x1f20 and 0x1f21 from DWARF issue 120604.1 (dwz).
 use mathlib.Core.Bool.{true, false, cond}
 use mathlib.Core.List.{List, [], _∷_}
 use Prim.Native.Nat.{ℕ}
@@ -18,52 +19,52 @@ pub data Form : Type 0 where
 -- every form but DW_FORM_indirect, which names another form in the bytes
 unfoldable pub forms : List Form
 forms =
-    form 0x01 L.Address K.Addr
-    ∷ form 0x03 L.Block2 K.Block
-    ∷ form 0x04 L.Block4 K.Block
-    ∷ form 0x05 L.U16 K.Data2
-    ∷ form 0x06 L.U32 K.Data4
-    ∷ form 0x07 L.U64 K.Data8
-    ∷ form 0x08 L.NullTerminated K.String
-    ∷ form 0x09 L.Block K.Block
-    ∷ form 0x0a L.Block1 K.Block
-    ∷ form 0x0b L.U8 K.Data1
-    ∷ form 0x0c L.U8 K.Flag
-    ∷ form 0x0d L.Sleb128 K.Sdata
-    ∷ form 0x0e L.Offset K.DebugStrRef
-    ∷ form 0x0f L.Uleb128 K.Udata
-    ∷ form 0x10 L.RefAddr K.DebugInfoRef
-    ∷ form 0x11 L.U8 K.UnitRef
-    ∷ form 0x12 L.U16 K.UnitRef
-    ∷ form 0x13 L.U32 K.UnitRef
-    ∷ form 0x14 L.U64 K.UnitRef
-    ∷ form 0x15 L.Uleb128 K.UnitRef
-    ∷ form 0x17 L.Offset K.SecOffset
-    ∷ form 0x18 L.Block K.Exprloc
-    ∷ form 0x19 L.Present K.Flag
-    ∷ form 0x1a L.Uleb128 K.DebugStrOffsetsIndex
-    ∷ form 0x1b L.Uleb128 K.DebugAddrIndex
-    ∷ form 0x1c L.U32 K.DebugInfoRefSup
-    ∷ form 0x1d L.Offset K.DebugStrRefSup
-    ∷ form 0x1e L.U128 K.Data16
-    ∷ form 0x1f L.Offset K.DebugLineStrRef
-    ∷ form 0x20 L.U64 K.DebugTypesRef
-    ∷ form 0x21 L.ImplicitConst K.Sdata
-    ∷ form 0x22 L.Uleb128 K.DebugLocListsIndex
-    ∷ form 0x23 L.Uleb128 K.DebugRngListsIndex
-    ∷ form 0x24 L.U64 K.DebugInfoRefSup
-    ∷ form 0x25 L.U8 K.DebugStrOffsetsIndex
-    ∷ form 0x26 L.U16 K.DebugStrOffsetsIndex
-    ∷ form 0x27 L.U24 K.DebugStrOffsetsIndex
-    ∷ form 0x28 L.U32 K.DebugStrOffsetsIndex
-    ∷ form 0x29 L.U8 K.DebugAddrIndex
-    ∷ form 0x2a L.U16 K.DebugAddrIndex
-    ∷ form 0x2b L.U24 K.DebugAddrIndex
-    ∷ form 0x2c L.U32 K.DebugAddrIndex
-    ∷ form 0x1f01 L.Uleb128 K.DebugAddrIndex
-    ∷ form 0x1f02 L.Uleb128 K.DebugStrOffsetsIndex
-    ∷ form 0x1f20 L.Offset K.DebugInfoRefSup
-    ∷ form 0x1f21 L.Offset K.DebugStrRefSup
+    form 0x01 L.Address K.Addr  -- DW_FORM_addr
+    ∷ form 0x03 L.Block2 K.Block  -- DW_FORM_block2
+    ∷ form 0x04 L.Block4 K.Block  -- DW_FORM_block4
+    ∷ form 0x05 L.U16 K.Data2  -- DW_FORM_data2
+    ∷ form 0x06 L.U32 K.Data4  -- DW_FORM_data4
+    ∷ form 0x07 L.U64 K.Data8  -- DW_FORM_data8
+    ∷ form 0x08 L.NullTerminated K.String  -- DW_FORM_string
+    ∷ form 0x09 L.Block K.Block  -- DW_FORM_block
+    ∷ form 0x0a L.Block1 K.Block  -- DW_FORM_block1
+    ∷ form 0x0b L.U8 K.Data1  -- DW_FORM_data1
+    ∷ form 0x0c L.U8 K.Flag  -- DW_FORM_flag
+    ∷ form 0x0d L.Sleb128 K.Sdata  -- DW_FORM_sdata
+    ∷ form 0x0e L.Offset K.DebugStrRef  -- DW_FORM_strp
+    ∷ form 0x0f L.Uleb128 K.Udata  -- DW_FORM_udata
+    ∷ form 0x10 L.RefAddr K.DebugInfoRef  -- DW_FORM_ref_addr
+    ∷ form 0x11 L.U8 K.UnitRef  -- DW_FORM_ref1
+    ∷ form 0x12 L.U16 K.UnitRef  -- DW_FORM_ref2
+    ∷ form 0x13 L.U32 K.UnitRef  -- DW_FORM_ref4
+    ∷ form 0x14 L.U64 K.UnitRef  -- DW_FORM_ref8
+    ∷ form 0x15 L.Uleb128 K.UnitRef  -- DW_FORM_ref_udata
+    ∷ form 0x17 L.Offset K.SecOffset  -- DW_FORM_sec_offset
+    ∷ form 0x18 L.Block K.Exprloc  -- DW_FORM_exprloc
+    ∷ form 0x19 L.Present K.Flag  -- DW_FORM_flag_present
+    ∷ form 0x1a L.Uleb128 K.DebugStrOffsetsIndex  -- DW_FORM_strx
+    ∷ form 0x1b L.Uleb128 K.DebugAddrIndex  -- DW_FORM_addrx
+    ∷ form 0x1c L.U32 K.DebugInfoRefSup  -- DW_FORM_ref_sup4
+    ∷ form 0x1d L.Offset K.DebugStrRefSup  -- DW_FORM_strp_sup
+    ∷ form 0x1e L.U128 K.Data16  -- DW_FORM_data16
+    ∷ form 0x1f L.Offset K.DebugLineStrRef  -- DW_FORM_line_strp
+    ∷ form 0x20 L.U64 K.DebugTypesRef  -- DW_FORM_ref_sig8
+    ∷ form 0x21 L.ImplicitConst K.Sdata  -- DW_FORM_implicit_const
+    ∷ form 0x22 L.Uleb128 K.DebugLocListsIndex  -- DW_FORM_loclistx
+    ∷ form 0x23 L.Uleb128 K.DebugRngListsIndex  -- DW_FORM_rnglistx
+    ∷ form 0x24 L.U64 K.DebugInfoRefSup  -- DW_FORM_ref_sup8
+    ∷ form 0x25 L.U8 K.DebugStrOffsetsIndex  -- DW_FORM_strx1
+    ∷ form 0x26 L.U16 K.DebugStrOffsetsIndex  -- DW_FORM_strx2
+    ∷ form 0x27 L.U24 K.DebugStrOffsetsIndex  -- DW_FORM_strx3
+    ∷ form 0x28 L.U32 K.DebugStrOffsetsIndex  -- DW_FORM_strx4
+    ∷ form 0x29 L.U8 K.DebugAddrIndex  -- DW_FORM_addrx1
+    ∷ form 0x2a L.U16 K.DebugAddrIndex  -- DW_FORM_addrx2
+    ∷ form 0x2b L.U24 K.DebugAddrIndex  -- DW_FORM_addrx3
+    ∷ form 0x2c L.U32 K.DebugAddrIndex  -- DW_FORM_addrx4
+    ∷ form 0x1f01 L.Uleb128 K.DebugAddrIndex  -- DW_FORM_GNU_addr_index
+    ∷ form 0x1f02 L.Uleb128 K.DebugStrOffsetsIndex  -- DW_FORM_GNU_str_index
+    ∷ form 0x1f20 L.Offset K.DebugInfoRefSup  -- DW_FORM_GNU_ref_alt
+    ∷ form 0x1f21 L.Offset K.DebugStrRefSup  -- DW_FORM_GNU_strp_alt
     ∷ []
 
 -- DW_FORM_indirect

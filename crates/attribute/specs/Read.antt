@@ -1,11 +1,11 @@
--- Reading values.
+-- Reading values. Sections are those of DWARF 5; what DWARF 2 to 4 have of it stands in their 7.5.4.
 use mathlib.Core.Bool.{cond}
 use mathlib.Core.List.{List, [], _∷_}
 use Prim.Native.Nat.{ℕ, zero, suc, _+_}
 use lib.Dec.{eqb}
 use lib.ListN.{length}
 use Rattle.reader.specs.Answer.{Answer, refused, andThen, Read, gives}
-use Rattle.reader.specs.Fields.{offsetAt, addressAt, nullTerminatedAt, skipAt}
+use Rattle.reader.specs.Fields.{wordSize, offsetAt, addressAt, nullTerminatedAt, skipAt}
 use Rattle.reader.specs.Leb128.{ulebAt, slebAt}
 use Rattle.reader.specs.Twos.{word}
 use Rattle.reader.specs.Words.{wordAt, halvesAt}
@@ -29,37 +29,45 @@ single n = record { low = n; high = 0 }
 abbrev pub pair : ℕ → ℕ → Numbers
 pair a b = record { low = a; high = b }
 
--- a number that was read
+-- 7.5.5: a number that was read
 unfoldable pub numbered : Answer (Read ℕ) → Answer (Read Numbers)
 numbered r = andThen r (λ v. gives (single (v .value)) (v .next))
 
--- 16 bytes
+-- 7.5.5, class constant: DW_FORM_data16
 unfoldable pub wideAt : List ℕ → ℕ → RunTimeEndian → Answer (Read Numbers)
 wideAt s at e = andThen (halvesAt s at e) (λ v. gives (pair (v .value .low) (v .value .high)) (v .next))
 
--- a signed number in two's complement
+-- 7.5.5, class constant, and 7.6: DW_FORM_sdata, in two's complement
 unfoldable pub signedAt : List ℕ → ℕ → Answer (Read Numbers)
 signedAt s at = andThen (slebAt s at 64) (λ v. gives (single (word 64 (v .value))) (v .next))
 
--- DWARF 2, 7.5.4: DW_FORM_ref_addr has the width of an address; DWARF 3 to 5: of an offset
-unfoldable pub refAddrAt : List ℕ → ℕ → Encoding → RunTimeEndian → Answer (Read ℕ)
-refAddrAt s at c e = cond (eqb (c .version) 2) (addressAt s at (c .«address_size») e) (offsetAt s at (c .format) e)
+-- DWARF 2, 7.5.4: DW_FORM_ref_addr has the width of an address; DWARF 3 and 4, 7.5.4, DWARF 5, 7.5.5: of an offset
+abbrev pub refAddr : {A : Type 0} → Encoding → A → A → A
+refAddr c address offset = cond (eqb (c .version) 2) address offset
 
--- a count, then as many bytes: their place, counted from `start`, and the count
+-- the bytes that it has
+abbrev pub refAddrSize : Encoding → ℕ
+refAddrSize c = refAddr c (c .«address_size») (wordSize (c .format))
+
+-- and is read so
+unfoldable pub refAddrAt : List ℕ → ℕ → Encoding → RunTimeEndian → Answer (Read ℕ)
+refAddrAt s at c e = refAddr c (addressAt s at (c .«address_size») e) (offsetAt s at (c .format) e)
+
+-- 7.5.5, classes block and exprloc: a count, then as many bytes: their place, counted from `start`, and the count
 unfoldable pub blockAfter : List ℕ → ℕ → Answer (Read ℕ) → Answer (Read Numbers)
 blockAfter s start r =
     andThen r (λ n. andThen (skipAt s (n .next) (n .value)) (λ q. gives (pair (start + n .next) (n .value)) q))
 
--- the same of bytes that a zero byte ends
+-- 7.5.5, class string: the same of bytes that a zero byte ends
 unfoldable pub stringAt : List ℕ → ℕ → ℕ → Answer (Read Numbers)
 stringAt s start at =
     andThen (nullTerminatedAt s at) (λ v. gives (pair (start + v .value .start) (v .value .len)) (v .next))
 
--- 01, question 18: the constant is the specification's own
+-- 7.5.3, DW_FORM_implicit_const; 01, question 18: the constant is the specification's own
 unfoldable pub constantOf : Specification → ℕ → Answer (Read Numbers)
 constantOf x at = cond (eqb (x .form) implicitConst) (gives (single (x .constant)) at) (refused 18)
 
--- what stands at a place of a part that starts at `start`
+-- 7.5.5: what stands at a place of a part that starts at `start`
 unfoldable pub rawAt : List ℕ → ℕ → Encoding → RunTimeEndian → Specification → Layout → ℕ → Answer (Read Numbers)
 rawAt s start c e x L.U8 at = numbered (wordAt s at 1 e)
 rawAt s start c e x L.U16 at = numbered (wordAt s at 2 e)
@@ -81,17 +89,17 @@ rawAt s start c e x L.Present at = gives (single 1) at
 rawAt s start c e x L.ImplicitConst at = constantOf x at
 rawAt s start c e x L.Unknown at = refused 17
 
--- DWARF 5, 7.5.3: DW_FORM_indirect reads another form, n times at most
+-- 7.5.3: DW_FORM_indirect reads another form, n times at most
 unfoldable pub resolve : ℕ → List ℕ → ℕ → ℕ → Answer (Read ℕ)
 resolve zero s f at = cond (eqb f indirect) (refused 2) (gives f at)
 resolve (suc n) s f at =
     cond (eqb f indirect) (andThen (ulebAt s at 16) (λ r. resolve n s (r .value) (r .next))) (gives f at)
 
--- the form that a form is in the end; each takes a byte, so that the bytes run out first (`final-step`)
+-- 7.5.3: the form that a form is in the end; each takes a byte, so that the bytes run out first (`final-step`)
 unfoldable pub finalForm : List ℕ → ℕ → ℕ → Answer (Read ℕ)
 finalForm s f at = resolve (length s) s f at
 
--- a value by its form's case, before its name is looked at
+-- 7.5.5 and 7.5.6: a value by its form's case, before its name is looked at
 unfoldable pub formAt : List ℕ → ℕ → Encoding → RunTimeEndian → Specification → ℕ → Answer (Read Value)
 formAt s start c e x at =
     andThen (finalForm s (x .form) at)
@@ -105,7 +113,7 @@ attributeAt s start c e x at =
     andThen (formAt s start c e x at)
     (λ v. gives (record { name = x .name; form = x .form; value = valueUnder c (x .name) (v .value) }) (v .next))
 
--- one after another
+-- 7.5.2: the values of an entry, one after another
 unfoldable pub attributesAt : List ℕ → ℕ → Encoding → RunTimeEndian → List Specification → ℕ → Answer (Read (List Attribute))
 attributesAt s start c e [] at = gives [] at
 attributesAt s start c e (x ∷ xs) at =

@@ -12,7 +12,7 @@ use Rattle.reader.specs.declared.common.Encoding.{Encoding}
 use Rattle.abbrev.specs.Lookup.{specsFrom, allFair}
 use Rattle.abbrev.specs.Table.{entryLimit, implicitConst}
 use Rattle.attribute.specs.Forms.{caseOf}
-use Rattle.attribute.specs.Skip.{refAddrSize}
+use Rattle.attribute.specs.Read.{refAddrSize}
 use Rattle.attribute.specs.declared.form.Kind.{Kind}
 use Rattle.attribute.specs.declared.form.Layout.{Layout}
 use Rattle.attribute.specs.declared.form.Layout.the-variants as L

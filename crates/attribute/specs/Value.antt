@@ -1,10 +1,11 @@
 -- Values: which case of `AttributeValue` one is, and its numbers.
-use mathlib.Core.Bool.{Bool, false, cond, _&&_, _||_}
-use mathlib.Core.List.{List, [], _∷_}
+use mathlib.Core.Bool.{Bool, cond, _&&_, _||_}
+use mathlib.Core.List.{[], _∷_}
 use Prim.Native.Nat.{ℕ}
 use lib.Dec.{eqb}
 use Rattle.reader.specs.Fields.{wordSize}
 use Rattle.reader.specs.declared.common.Encoding.{Encoding}
+use Rattle.abbrev.specs.Table.{has}
 use Rattle.attribute.specs.Forms.{caseOf}
 use Rattle.attribute.specs.declared.form.Kind.{Kind}
 use Rattle.attribute.specs.declared.form.Kind.the-variants as K
@@ -18,17 +19,13 @@ pub record Attribute : Type 0 where
   pub form : ℕ
   pub value : Value
 
-abbrev pub member : ℕ → List ℕ → Bool
-member n [] = false
-member n (x ∷ xs) = eqb n x || member n xs
-
--- 01, "Values": the names under which forms 06 and 07 are offsets into a section
+-- 01, "Values" (DWARF 3, 7.5.4, classes lineptr, loclistptr, macptr and rangelistptr): the names under which forms 06 and 07 are offsets into a section
 unfoldable pub allowSectionOffset : ℕ → ℕ → Bool
 allowSectionOffset name version =
-    member name (0x02 ∷ 0x10 ∷ 0x19 ∷ 0x2a ∷ 0x2c ∷ 0x40 ∷ 0x43 ∷ 0x46 ∷ 0x48 ∷ 0x4a ∷ 0x4d ∷ 0x55 ∷ 0x79 ∷ [])
+    has name (0x02 ∷ 0x10 ∷ 0x19 ∷ 0x2a ∷ 0x2c ∷ 0x40 ∷ 0x43 ∷ 0x46 ∷ 0x48 ∷ 0x4a ∷ 0x4d ∷ 0x55 ∷ 0x79 ∷ [])
     || eqb name 0x38 && (eqb version 2 || eqb version 3)
 
--- such an offset has the bytes of the format's word
+-- DWARF 3, 7.5.4: such an offset has the bytes of the format's word
 unfoldable pub isSectionOffset : Encoding → ℕ → ℕ → Bool
 isSectionOffset c name n = eqb n (wordSize (c .format)) && allowSectionOffset name (c .version)
 
@@ -44,7 +41,7 @@ kindBy S.String c name k = k
 kindBy S.Offset c name k = k
 kindBy S.Other c name k = k
 
--- the first number; a flag is true unless its byte is 0
+-- the first number; DWARF 5, 7.5.5, class flag: true unless its byte is 0
 abbrev pub lowBy : Sort → ℕ → ℕ
 lowBy S.Flag n = cond (eqb n 0) 0 1
 lowBy (S.Constant k) n = n

@@ -1,4 +1,4 @@
--- Fields that headers and values share.
+-- Fields that headers and values share (DWARF 2 to 5; DWARF 2 has the 32-bit format alone).
 use mathlib.Core.Bool.{Bool, cond, _||_}
 use mathlib.Core.List.{List}
 use Prim.Native.Nat.{ℕ, _+_, _-_}
@@ -12,31 +12,31 @@ use Rattle.reader.specs.declared.common.Format.the-variants.{Dwarf32, Dw
 use Rattle.reader.specs.declared.endianity.RunTimeEndian.{RunTimeEndian}
 use Rattle.reader.specs.declared.endianity.RunTimeEndian.the-variants.{Little}
 
--- DWARF 5, 7.4: the bytes of an offset or a length
+-- DWARF 3 to 5, 7.4: the bytes of an offset or a length
 abbrev pub wordSize : Format → ℕ
 wordSize Dwarf32 = 4
 wordSize Dwarf64 = 8
 
--- DWARF 5, 7.4: the bytes of an initial length, 0xffffffff before the 8 among them
+-- DWARF 3 to 5, 7.4: the bytes of an initial length, 0xffffffff before the 8 among them
 abbrev pub initialLengthSize : Format → ℕ
 initialLengthSize Dwarf32 = 4
 initialLengthSize Dwarf64 = 12
 
--- DWARF 5, 7.4: an offset or a length in its format
+-- DWARF 3 to 5, 7.4: an offset or a length in its format
 unfoldable pub offsetAt : List ℕ → ℕ → Format → RunTimeEndian → Answer (Read ℕ)
 offsetAt s at f e = wordAt s at (wordSize f) e
 
--- the length of what follows, and the format
+-- 7.4: the length of what follows, and the format
 pub record Initial : Type 0 where
   pub unit-length : ℕ
   pub format : Format
 
--- the length after 0xffffffff
+-- 7.4: the length after 0xffffffff
 unfoldable pub longLengthAt : List ℕ → ℕ → RunTimeEndian → Answer (Read Initial)
 longLengthAt s at e =
     andThen (wordAt s at 8 e) (λ r. gives (record { unit-length = r .value; format = Dwarf64 }) (r .next))
 
--- DWARF 5, 7.2.2 and 7.4: an initial length; 01, question 5
+-- DWARF 3 to 5, 7.2.2 and 7.4: an initial length; 01, question 5
 unfoldable pub initialLengthAt : List ℕ → ℕ → RunTimeEndian → Answer (Read Initial)
 initialLengthAt s at e =
     andThen (wordAt s at 4 e)
@@ -49,11 +49,11 @@ initialLengthAt s at e =
 unfoldable pub isAddressSize : ℕ → Bool
 isAddressSize n = eqb n 1 || eqb n 2 || eqb n 4 || eqb n 8
 
--- a byte that is such a width
+-- 7.5.1: a header's byte that is such a width
 unfoldable pub addressSizeAt : List ℕ → ℕ → Answer (Read ℕ)
 addressSizeAt s at = andThen (wordAt s at 1 Little) (λ r. cond (isAddressSize (r .value)) (got r) (refused 7))
 
--- an address, or an offset of version 2, of n bytes; the width is judged before the bytes
+-- DWARF 5, 7.5.5, class address; DWARF 2 to 4, 7.5.4: an address, or an offset of version 2, of n bytes; the width is judged before the bytes
 unfoldable pub addressAt : List ℕ → ℕ → ℕ → RunTimeEndian → Answer (Read ℕ)
 addressAt s at n e = cond (isAddressSize n) (wordAt s at n e) (refused 7)
 
@@ -62,7 +62,7 @@ pub record Span : Type 0 where
   pub start : ℕ
   pub len : ℕ
 
--- bytes that end with a zero byte, without it
+-- DWARF 5, 7.5.5, class string; DWARF 2 to 4, 7.5.4: bytes that end with a zero byte, without it
 unfoldable pub nullTerminatedAt : List ℕ → ℕ → Answer (Read Span)
 nullTerminatedAt s at = andThen (pastAt s at 1) (λ p. gives (record { start = at; len = p - 1 - at }) p)
 

@@ -1,4 +1,5 @@
--- Words: numbers of a fixed count of bytes, in either order of the bytes.
+-- Words: numbers of a fixed count of bytes, in either order of the bytes. DWARF 2 to 5 have them as the fields of headers (7.5.1)
+-- and the values of forms (DWARF 5, 7.5.5; DWARF 2 to 4, 7.5.4).
 use mathlib.Core.Bool.{Bool, true, false, cond}
 use mathlib.Core.List.{List, [], _∷_, reverse}
 use Prim.Native.Nat.{ℕ, _+_, _*_, _/_, _%_, _^_}
@@ -22,11 +23,11 @@ abbrev pub ordered : RunTimeEndian → List ℕ → List ℕ
 ordered Little bs = bs
 ordered Big bs = reverse bs
 
--- n bytes from a place on as a number
+-- 7.5.1 and 7.5.5: n bytes from a place on as a number
 unfoldable pub spelled : List ℕ → ℕ → ℕ → RunTimeEndian → ℕ
 spelled s at n e = number 8 (ordered e (take n (drop at s)))
 
--- 01's words: the same if they are there, else 2
+-- 7.5.1 and 7.5.5: the same if they are there, else 2 (01's words)
 unfoldable pub wordAt : List ℕ → ℕ → ℕ → RunTimeEndian → Answer (Read ℕ)
 wordAt s at n e = cond (leb (at + n) (length s)) (gives (spelled s at n e) (at + n)) (refused 2)
 
@@ -38,6 +39,6 @@ pub record Halves : Type 0 where
 abbrev pub halves : ℕ → Halves
 halves n = record { low = n % 2 ^ 64; high = n / 2 ^ 64 }
 
--- 16 bytes: 01, `Data16` becomes the number's low and high 64 bits
+-- DWARF 5, 7.5.5, DW_FORM_data16; 01, `Data16` becomes the number's low and high 64 bits
 unfoldable pub halvesAt : List ℕ → ℕ → RunTimeEndian → Answer (Read Halves)
 halvesAt s at e = andThen (wordAt s at 16 e) (λ r. gives (halves (r .value)) (r .next))

@@ -8,10 +8,10 @@ use Rattle.unit.specs.Parse.{headerAt, bodyAt, restAt, commonAt, newerAt, typed
 use Rattle.unit.specs.Units.{nextUnit}
 use Rattle.attribute.specs.Forms.{forms, rowIn, row}
 use Rattle.attribute.specs.Read.{numbered, constantOf, rawAt, resolve, finalForm, formAt, attributeAt, attributesAt}
-use Rattle.attribute.specs.Skip.{pastLayout, pastValue, pastValues}
+use Rattle.attribute.specs.Skip.{endingOf, pastLayout, pastValue, pastValues}
 use Rattle.readings.specs.Marked.{Holds-reading, All, marked}
 
 -- the one statement of document 01, "How far each contract reaches", point 4
 pub all-marked : All Holds-reading marked
-unfolding ulebAt slebAt leb128 extent through number twos wordAt spelled initialLengthAt isAddressSize addressSizeAt addressAt skipAt nextUnit headerAt bodyAt restAt commonAt newerAt typedAt forms rowIn row numbered constantOf rawAt resolve finalForm formAt attributeAt attributesAt pastLayout pastValue pastValues
+unfolding ulebAt slebAt leb128 extent through number twos wordAt spelled initialLengthAt isAddressSize addressSizeAt addressAt skipAt nextUnit headerAt bodyAt restAt commonAt newerAt typedAt forms rowIn row numbered constantOf rawAt resolve finalForm formAt attributeAt attributesAt endingOf pastLayout pastValue pastValues
 all-marked = (refl, (refl, (refl, (refl, (refl, (refl, (refl, (refl, (refl, (refl, ((λ c x. record { reading = λ start e. refl; skipping = λ e. refl }), ((λ c x. record { reading = λ start e. refl; skipping = λ e. refl }), tt))))))))))))

@@ -63,7 +63,8 @@ pub record Ends (s : List ℕ) (c : Encoding) (x : Specification) (read skipped 
   pub reading : (start : ℕ) (e : RunTimeEndian) → endOf (attributesAt s start c e (x ∷ []) 0) ≡ read
   pub skipping : (e : RunTimeEndian) → pastValues s c e (x ∷ []) 0 ≡ skipped
 
--- the reading comes out so by the definitions; what it does not name is arbitrary
+-- the reading comes out so by the definitions, with the bytes alone and from place 0 on; of a value, whatever the start, the order of the
+-- bytes, the name, the constant, and what of the encoding it does not name
 abbrev pub Holds-reading : Reading → Type 0
 Holds-reading (unsigned w s r) = ulebAt s 0 w ≡ whole s r
 Holds-reading (signed w s r) = slebAt s 0 w ≡ whole s r

@@ -19,7 +19,7 @@ use Rattle.reader.proofs.Answers.{holds-then, cond-by}
 use Rattle.reader.proofs.FieldLaws.{initial-in, skip-in}
 use Rattle.reader.proofs.WordLaws.{WordIn, word-in}
 use Rattle.unit.specs.Header.{typeNumber, typeSize, sizeOfHeader, unitEnd}
-use Rattle.unit.specs.Parse.{Section, Common, signatureAt, typeAt, olderAt, typedAt, newerAt, commonAt, restAt, bodyAt, headerAt}
+use Rattle.unit.specs.Parse.{UnitSection, Common, signatureAt, typeAt, olderAt, typedAt, newerAt, commonAt, restAt, bodyAt, headerAt}
 use Rattle.unit.specs.declared.header.UnitHeader.{UnitHeader}
 use Rattle.unit.specs.declared.header.UnitType.{UnitType}
 use Rattle.unit.specs.declared.header.UnitType.the-variants.{Compilation, «Type», Partial, Skeleton, SplitCompilation, SplitType}
@@ -88,7 +88,7 @@ newer-in s at f e =
 abbrev pub commonSize : ℕ → Format → ℕ
 commonSize version f = wordSize f + 1 + cond (eqb version 5) 1 0
 
-pub common-in : (sec : Section) (s : List ℕ) (at version : ℕ) (f : Format) (e : RunTimeEndian) → Holds (CommonIn s at (commonSize version f)) (commonAt sec s at version f e)
+pub common-in : (sec : UnitSection) (s : List ℕ) (at version : ℕ) (f : Format) (e : RunTimeEndian) → Holds (CommonIn s at (commonSize version f)) (commonAt sec s at version f e)
 unfolding commonAt
 common-in sec s at version f e =
     cond-by (Holds (CommonIn s at (commonSize version f))) (eqb (sec .judge version f) 0) _ _
@@ -173,7 +173,7 @@ record BodyIn (s : List ℕ) (at : ℕ) (l : Initial) (p : ℕ) (r : Read UnitHe
   start : initialLengthSize (l .format) + r .next ≡ p + sizeOfHeader (r .value)
   within : r .next ≤ length s
 
-body-in : (sec : Section) (s : List ℕ) (at : ℕ) (l : Initial) (p : ℕ) (e : RunTimeEndian) → Holds (BodyIn s at l p) (bodyAt sec s at l p e)
+body-in : (sec : UnitSection) (s : List ℕ) (at : ℕ) (l : Initial) (p : ℕ) (e : RunTimeEndian) → Holds (BodyIn s at l p) (bodyAt sec s at l p e)
 unfolding bodyAt restAt sizeOfHeader
 body-in sec s at l p e =
     holds-then (WordIn s p 2) (BodyIn s at l p) (wordAt s p 2 e) _ (word-in s p 2 e)
@@ -192,7 +192,7 @@ body-in sec s at l p e =
       within = m .within (k .within);
     })))
 
-pub header-in : (sec : Section) (s : List ℕ) (at : ℕ) (e : RunTimeEndian) → Holds (HeaderIn s at) (headerAt sec s at e)
+pub header-in : (sec : UnitSection) (s : List ℕ) (at : ℕ) (e : RunTimeEndian) → Holds (HeaderIn s at) (headerAt sec s at e)
 unfolding headerAt
 header-in sec s at e =
     cond-by (Holds (HeaderIn s at)) (leb (length s) maxSection) _ (refused 1)

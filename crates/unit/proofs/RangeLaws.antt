@@ -14,7 +14,7 @@ use Rattle.reader.specs.declared.endianity.RunTimeEndian.{RunTimeEndian}
 use Rattle.reader.proofs.Answers.{cond-by}
 use Rattle.reader.proofs.Numbers.{lt-or-le}
 use Rattle.unit.specs.Header.{sizeOfHeader, unitEnd, inBounds}
-use Rattle.unit.specs.Parse.{Section, headerAt}
+use Rattle.unit.specs.Parse.{UnitSection, headerAt}
 use Rattle.unit.specs.Range.{part, Handed, unitBytes, entriesBuf, rangeFrom}
 use Rattle.unit.proofs.ParseLaws.{HeaderIn, header-in}
 use Rattle.unit.specs.declared.header.UnitHeader.{UnitHeader}
@@ -75,7 +75,7 @@ unfolding rangeFrom
 from-19 h u a = cond-by Or19 (inBounds h a) _ _ (λ _. part-19 u a (unitEnd h)) (λ _. refl)
 
 -- and so does a header's own section
-pub bytes-19 : (sec : Section) (s : List ℕ) (at : ℕ) (e : RunTimeEndian) {r : Read UnitHeader} → headerAt sec s at e ≡ got r → Or19 (unitBytes (r .value) s)
+pub bytes-19 : (sec : UnitSection) (s : List ℕ) (at : ℕ) (e : RunTimeEndian) {r : Read UnitHeader} → headerAt sec s at e ≡ got r → Or19 (unitBytes (r .value) s)
 unfolding unitBytes
 bytes-19 sec s at e {r} q =
     let h : Holds (HeaderIn s at) (got r) = subst (λ (x : Answer (Read UnitHeader)). Holds (HeaderIn s at) x) q (header-in sec s at e) in

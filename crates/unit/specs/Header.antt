@@ -1,4 +1,4 @@
--- A unit's header and its questions (DWARF 5, section 7.5.1).
+-- A unit's header and its questions (DWARF 2 to 5, section 7.5.1; DWARF 4 and 5 divide it).
 use mathlib.Core.Bool.{Bool, cond, _&&_}
 use Prim.Native.Nat.{ℕ, _+_, _-_, _*_, _^_}
 use lib.Dec.{leb, ltb, eqb}
@@ -18,7 +18,7 @@ typeNumber (Skeleton i) = 4
 typeNumber (SplitCompilation i) = 5
 typeNumber (SplitType s o) = 6
 
--- the bytes of a signature and a type offset, or of a dwo_id
+-- DWARF 5, 7.5.1.2 and 7.5.1.3: the bytes of a dwo_id, or of a signature and a type offset
 abbrev pub typeSize : UnitType → ℕ → ℕ
 typeSize Compilation word = 0
 typeSize («Type» s o) word = 8 + word
@@ -27,14 +27,14 @@ typeSize (Skeleton i) word = 8
 typeSize (SplitCompilation i) word = 8
 typeSize (SplitType s o) word = 8 + word
 
--- length, version, table offset and address width, what the type adds, and the type in version 5
+-- 7.5.1: length, version, table offset and address width, what the type adds, and the type in version 5
 unfoldable pub sizeOfHeader : UnitHeader → ℕ
 sizeOfHeader h =
     initialLengthSize (h .encoding .format) + 3 + wordSize (h .encoding .format)
     + typeSize (h .«unit_type») (wordSize (h .encoding .format))
     + cond (eqb (h .encoding .version) 5) 1 0
 
--- where the unit ends, from its first byte
+-- 7.5.1, unit_length: where the unit ends, from its first byte
 abbrev pub unitEnd : UnitHeader → ℕ
 unitEnd h = initialLengthSize (h .encoding .format) + h .«unit_length»
 
@@ -46,7 +46,7 @@ lengthIncludingSelf h = cond (leb (unitEnd h) maxSection) (got (unitEnd h)) (ref
 unfoldable pub inBounds : UnitHeader → ℕ → Bool
 inBounds h offset = leb (sizeOfHeader h) offset && ltb offset (unitEnd h)
 
--- -1 and -2 of the unit's address width; 7 for another width
+-- gimli's min_tombstone: -2 of the unit's address width, and every address above it; 7 for another width
 unfoldable pub tombstone : UnitHeader → ℕ → Answer Bool
 tombstone h address =
     cond (isAddressSize (h .encoding .«address_size»))

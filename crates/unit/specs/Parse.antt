@@ -15,26 +15,27 @@ use Rattle.unit.specs.declared.header.UnitHeader.{UnitHeader}
 use Rattle.unit.specs.declared.header.UnitType.{UnitType}
 use Rattle.unit.specs.declared.header.UnitType.the-variants.{Compilation, «Type», Partial, Skeleton, SplitCompilation, SplitType}
 
--- the number of the unit type that a section has before version 5, and the refusal of a version in a format, 0 where it is let in
-pub record Section : Type 0 where
+-- a section of units: the number of the unit type that it has before version 5, and the refusal of a version in a format, 0 where it is let in
+pub record UnitSection : Type 0 where
   pub older : ℕ
   pub judge : ℕ → Format → ℕ
 
 -- .debug_info: compilation units before version 5; 01, question 6: versions 2 to 5
-abbrev pub debugInfo : Section
+abbrev pub debugInfo : UnitSection
 debugInfo = record { older = 1; judge = λ version format. cond (leb 2 version && leb version 5) 0 6 }
 
--- a type signature and the offset of the type in the unit
+-- DWARF 4, 7.5.1.2; DWARF 5, 7.5.1.3: a type signature and the offset of the type in the unit
 pub record Signature : Type 0 where
   pub signature : ℕ
   pub offset : ℕ
 
+-- the same read
 unfoldable pub signatureAt : List ℕ → ℕ → Format → RunTimeEndian → Answer (Read Signature)
 signatureAt s at f e =
     andThen (wordAt s at 8 e)
     (λ x. andThen (offsetAt s (x .next) f e) (λ y. gives (record { signature = x .value; offset = y .value }) (y .next)))
 
--- what a unit of a type has behind the common fields; 01, question 8
+-- DWARF 5, 7.5.1.1 to 7.5.1.3: what a unit of a type has behind the common fields; 01, question 8
 unfoldable pub typeAt : List ℕ → ℕ → ℕ → Format → RunTimeEndian → Answer (Read UnitType)
 typeAt s at n f e =
     cond (eqb n 1) (gives Compilation at)
@@ -51,29 +52,31 @@ pub record Common : Type 0 where
   pub width : ℕ
   pub number : ℕ
 
--- versions 2 to 4: table offset, address width
+-- DWARF 2 to 4, 7.5.1: table offset, address width
 unfoldable pub olderAt : List ℕ → ℕ → ℕ → Format → RunTimeEndian → Answer (Read Common)
 olderAt s at older f e =
     andThen (offsetAt s at f e)
     (λ a. andThen (addressSizeAt s (a .next)) (λ w. gives (record { table = a .value; width = w .value; number = older }) (w .next)))
 
--- version 5: unit type, address width, table offset
+-- DWARF 5, 7.5.1.1: behind the unit type, address width and table offset
 unfoldable pub typedAt : List ℕ → ℕ → ℕ → Format → RunTimeEndian → Answer (Read Common)
 typedAt s at number f e =
     andThen (addressSizeAt s at)
     (λ w. andThen (offsetAt s (w .next) f e) (λ a. gives (record { table = a .value; width = w .value; number = number }) (a .next)))
 
+-- DWARF 5, 7.5.1.1: the same from the unit type on
 unfoldable pub newerAt : List ℕ → ℕ → Format → RunTimeEndian → Answer (Read Common)
 newerAt s at f e = andThen (wordAt s at 1 Little) (λ t. typedAt s (t .next) (t .value) f e)
 
-unfoldable pub commonAt : Section → List ℕ → ℕ → ℕ → Format → RunTimeEndian → Answer (Read Common)
+-- 7.5.1: table offset, address width and unit type by the version; 01, question 6
+unfoldable pub commonAt : UnitSection → List ℕ → ℕ → ℕ → Format → RunTimeEndian → Answer (Read Common)
 commonAt sec s at version f e =
     cond (eqb (sec .judge version f) 0)
     (cond (eqb version 5) (newerAt s at f e) (olderAt s at (sec .older) f e))
     (refused (sec .judge version f))
 
--- what follows the version
-unfoldable pub restAt : Section → List ℕ → ℕ → Initial → ℕ → ℕ → RunTimeEndian → Answer (Read UnitHeader)
+-- 7.5.1: what follows the version
+unfoldable pub restAt : UnitSection → List ℕ → ℕ → Initial → ℕ → ℕ → RunTimeEndian → Answer (Read UnitHeader)
 restAt sec s at l version p e =
     andThen (commonAt sec s p version (l .format) e)
     (λ c.
@@ -89,12 +92,12 @@ restAt sec s at l version p e =
     })
     (t .next)))
 
--- what follows the initial length, in the bytes up to the unit's end
-unfoldable pub bodyAt : Section → List ℕ → ℕ → Initial → ℕ → RunTimeEndian → Answer (Read UnitHeader)
+-- 7.5.1: what follows the initial length, in the bytes up to the unit's end
+unfoldable pub bodyAt : UnitSection → List ℕ → ℕ → Initial → ℕ → RunTimeEndian → Answer (Read UnitHeader)
 bodyAt sec s at l p e = andThen (wordAt s p 2 e) (λ v. restAt sec s at l (v .value) (v .next) e)
 
--- the header at a place of a section, and where its entries start. 01: length, then the unit's bytes are there, version, ..
-unfoldable pub headerAt : Section → List ℕ → ℕ → RunTimeEndian → Answer (Read UnitHeader)
+-- 7.5.1: the header at a place of a section, and where its entries start. 01: length, then the unit's bytes are there, version, ..
+unfoldable pub headerAt : UnitSection → List ℕ → ℕ → RunTimeEndian → Answer (Read UnitHeader)
 headerAt sec s at e =
     cond (leb (length s) maxSection)
     (andThen (initialLengthAt s at e)

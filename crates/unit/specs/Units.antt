@@ -1,4 +1,4 @@
--- The units of .debug_info, one after the other.
+-- The units of .debug_info, one after the other (DWARF 2 to 5, 7.5.1).
 use mathlib.Core.Bool.{cond, _&&_}
 use mathlib.Core.List.{List}
 use mathlib.Core.Option.{Option, none, some}
@@ -22,7 +22,7 @@ abbrev pub advanced : List ℕ → ℕ → Answer (Read UnitHeader) → Advanced
 advanced s at (got r) = record { answer = got (some (r .value)); offset = at + unitEnd (r .value) }
 advanced s at (refused n) = record { answer = refused n; offset = length s }
 
--- the list ends with the section; a place past it, and a section too long, are refused with 1 before all reading
+-- 7.5.1: a unit follows the one before it; the list ends with the section; a place past it, and a section too long, are refused with 1 before all reading
 unfoldable pub nextUnit : List ℕ → ℕ → RunTimeEndian → Advanced
 nextUnit s at e =
     cond (leb (length s) maxSection && leb at (length s))

@@ -6,8 +6,8 @@ use Rattle.reader.specs.Answer.{Answer, got, refused, Read, gives}
 use Rattle.reader.specs.Errors.{numberOf}
 use Rattle.unit.specs.Parse.{Common, Signature}
 use Rattle.unit.specs.Units.{Advanced}
-use Rattle.unit.specs.declared.header.Size.{Size}
-use Rattle.unit.specs.declared.header.Size.the-variants as size
+use Rattle.unit.specs.declared.header.Length.{Length}
+use Rattle.unit.specs.declared.header.Length.the-variants as unit-length
 use Rattle.unit.specs.declared.header.Verdict.{Verdict}
 use Rattle.unit.specs.declared.header.Verdict.the-variants as verdict
 use Rattle.unit.specs.declared.header.UnitHeader.{UnitHeader}
@@ -24,9 +24,9 @@ use Rattle.unit.specs.declared.units.Next.{Next}
 use Rattle.unit.specs.declared.units.NextUnit.{NextUnit}
 use Rattle.unit.specs.declared.units.NextUnit.the-variants as next-unit
 
-abbrev pub viewSize : Size → Answer ℕ
-viewSize (size.Got n) = got n
-viewSize (size.Refused e) = refused (numberOf e)
+abbrev pub viewLength : Length → Answer ℕ
+viewLength (unit-length.Got n) = got n
+viewLength (unit-length.Refused e) = refused (numberOf e)
 
 abbrev pub viewVerdict : Verdict → Answer Bool
 viewVerdict (verdict.Got b) = got b

@@ -3,7 +3,7 @@
 ghost use mathlib.Core.Path.{_≡_};
 ghost use Prim.Native.Nat.{_≤_};
 ghost use Rattle.unit.specs.Header.{typeSize, sizeOfHeader, lengthIncludingSelf, inBounds, tombstone};
-ghost use Rattle.unit.specs.Views.{viewSize, viewVerdict};
+ghost use Rattle.unit.specs.Views.{viewLength, viewVerdict};
 use reader::common::Encoding;
 use reader::common::Format;
 use reader::common::MAX_SECTION;
@@ -28,7 +28,7 @@ pub struct UnitHeader {
     pub unit_type: UnitType,
 }
 
-pub enum Size {
+pub enum Length {
     Got(u64),
     Refused(Error),
 }
@@ -68,8 +68,8 @@ impl UnitHeader {
     }
 
     // The bytes of the unit, its length word among them.
-    pub fn length_including_self(self) -> Size
-        ensures { λ r. ⌜ viewSize r ≡ lengthIncludingSelf self ⌝ }
+    pub fn length_including_self(self) -> Length
+        ensures { λ r. ⌜ viewLength r ≡ lengthIncludingSelf self ⌝ }
     {
         let encoding = self.encoding;
         let format = encoding.format;
@@ -77,9 +77,9 @@ impl UnitHeader {
         let length = self.unit_length;
         let most = (MAX_SECTION as u64) - size;
         if most < length {
-            return Size::Refused(Error::SizeLimit);
+            return Length::Refused(Error::SizeLimit);
         }
-        Size::Got(size + length)
+        Length::Got(size + length)
     }
 
     pub fn size_of_header(self) -> usize
@@ -166,7 +166,7 @@ impl UnitHeader {
         rest < length
     }
 
-    // Whether an address is -1 or -2 of the unit's width.
+    // Whether an address is -2 of the unit's width or above it.
     pub fn is_tombstone_address(self, address: u64) -> Verdict
         ensures { λ r. ⌜ viewVerdict r ≡ tombstone self address ⌝ }
     {

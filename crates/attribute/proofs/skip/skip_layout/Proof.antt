@@ -1,4 +1,4 @@
-use Rattle.attribute.specs.Skip.{pastLayout}
+use Rattle.attribute.specs.Skip.{endingOf, pastLayout}
 use Rattle.reader.proofs.WordLaws.{word-one}
 use Rattle.reader.specs.declared.endianity.RunTimeEndian.the-variants.{Little}
 use borrow.Author.Needs.{needs}
@@ -7,7 +7,7 @@ use Rattle.attribute.proofs.skip.skip_layout.Statement.{statement}
 use Rattle.attribute.proofs.skip.skip_layout.Tie as tie
 
 pub skip-layout-spec : {M : Type 1} → statement M
-unfolding pastLayout
+unfolding pastLayout endingOf
 skip-layout-spec =
     tie.close
     (tie.spec

@@ -1,8 +1,15 @@
 use Rattle.attribute.specs.Value.{allowSectionOffset}
 use borrow.Author.Needs.{needs}
 use borrow.Author.Tests.{ne-eqb, eq-eqb}
+use lib.Dec.{eqb}
+use mathlib.Core.Bool.{false}
+use mathlib.Core.Path.{_≡_, sym}
+use Prim.Native.Nat.{ℕ}
 use Rattle.attribute.proofs.value.allow_section_offset.Statement.{statement}
 use Rattle.attribute.proofs.value.allow_section_offset.Tie as tie
+
+no : (n k : ℕ) → (n ≡ k → ⊥) → eqb k n ≡ false
+no n k h = ne-eqb k n (λ e. h (sym e))
 
 pub allow-section-offset-spec : {M : Type 1} → statement M
 unfolding allowSectionOffset
@@ -40,4 +47,4 @@ allow-section-offset-spec =
     -- returns-15
     (λ c. rw (c .before .match .keys14, ne-eqb _ 2 (c .if1 .left)) (search needs))
     -- returns-16
-    (λ c. simp (ne-eqb _ _ (c .match .rest .0 .0 .0 .0 .0 .0 .0 .0 .0 .0 .0 .0 .0 .1), ne-eqb _ _ (c .match .rest .0 .0 .0 .0 .0 .0 .0 .0 .0 .0 .0 .0 .1), ne-eqb _ _ (c .match .rest .0 .0 .0 .0 .0 .0 .0 .0 .0 .0 .0 .1), ne-eqb _ _ (c .match .rest .0 .0 .0 .0 .0 .0 .0 .0 .0 .0 .1), ne-eqb _ _ (c .match .rest .0 .0 .0 .0 .0 .0 .0 .0 .0 .1), ne-eqb _ _ (c .match .rest .0 .0 .0 .0 .0 .0 .0 .0 .1), ne-eqb _ _ (c .match .rest .0 .0 .0 .0 .0 .0 .0 .1), ne-eqb _ _ (c .match .rest .0 .0 .0 .0 .0 .0 .1), ne-eqb _ _ (c .match .rest .0 .0 .0 .0 .0 .1), ne-eqb _ _ (c .match .rest .0 .0 .0 .0 .1), ne-eqb _ _ (c .match .rest .0 .0 .0 .1), ne-eqb _ _ (c .match .rest .0 .0 .1), ne-eqb _ _ (c .match .rest .0 .1), ne-eqb _ _ (c .match .rest .1))))
+    (λ c. simp (no _ _ (c .match .rest .0 .0 .0 .0 .0 .0 .0 .0 .0 .0 .0 .0 .0 .1), no _ _ (c .match .rest .0 .0 .0 .0 .0 .0 .0 .0 .0 .0 .0 .0 .1), no _ _ (c .match .rest .0 .0 .0 .0 .0 .0 .0 .0 .0 .0 .0 .1), no _ _ (c .match .rest .0 .0 .0 .0 .0 .0 .0 .0 .0 .0 .1), no _ _ (c .match .rest .0 .0 .0 .0 .0 .0 .0 .0 .0 .1), no _ _ (c .match .rest .0 .0 .0 .0 .0 .0 .0 .0 .1), no _ _ (c .match .rest .0 .0 .0 .0 .0 .0 .0 .1), no _ _ (c .match .rest .0 .0 .0 .0 .0 .0 .1), no _ _ (c .match .rest .0 .0 .0 .0 .0 .1), no _ _ (c .match .rest .0 .0 .0 .0 .1), no _ _ (c .match .rest .0 .0 .0 .1), no _ _ (c .match .rest .0 .0 .1), no _ _ (c .match .rest .0 .1), ne-eqb _ _ (c .match .rest .1))))

@@ -1,5 +1,5 @@
 use Prim.Native.Nat.{_+_, _/_}
-use Rattle.abbrev.specs.Lookup.{attributeAt, specificationAt}
+use Rattle.abbrev.specs.Lookup.{specificationIn, specificationAt}
 use borrow.Author.Needs.{needs}
 use borrow.Author.Tests.{lt-ltb, le-ltb}
 use lib.ListN.{length}
@@ -8,7 +8,7 @@ use Rattle.abbrev.proofs.lookup.Abbreviation.attribute.Statement.{state
 use Rattle.abbrev.proofs.lookup.Abbreviation.attribute.Tie as tie
 
 pub attribute-spec : {M : Type 1} → statement M
-unfolding attributeAt specificationAt
+unfolding specificationIn specificationAt
 attribute-spec =
     tie.close
     (tie.spec
