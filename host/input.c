@@ -59,7 +59,7 @@ static enum status list_archive(const struct options *options, const char *name,
     size_t members = 0, listed = 0;
     Elf_Cmd command = ELF_C_READ_MMAP;
     Elf *elf;
-    while ((elf = elf_begin(fd, command, archive)) != NULL) {
+    for (elf_errno(); (elf = elf_begin(fd, command, archive)) != NULL; elf_errno()) {
         const Elf_Arhdr *header = elf_getarhdr(elf);
         bool is_object = header != NULL && elf_kind(elf) == ELF_K_ELF;
         enum status status = is_object ? list_member(options, name, header->ar_name, elf) : NOTHING;
