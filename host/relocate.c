@@ -66,11 +66,13 @@ static Elf *apply(struct object *object)
     GElf_Addr bias;
     int copy = elf_copy(object->own);
     object->dwfl = dwfl_begin(&callbacks);
-    if (copy < 0 || object->dwfl == NULL || !clear_flags(object->own, copy)) {
+    if (copy < 0 || object->dwfl == NULL) {
         say("%s: no memory for a copy of it", object->name);
         exit(NO_MEMORY);
     }
-    Dwfl_Module *module = dwfl_report_elf(object->dwfl, object->name, object->name, copy, 0, false);
+    Dwfl_Module *module = NULL;
+    if (clear_flags(object->own, copy))
+        module = dwfl_report_elf(object->dwfl, object->name, object->name, copy, 0, false);
     if (module == NULL) {
         close(copy);
         return NULL;
@@ -157,8 +159,9 @@ enum status object_relocate(struct object *object, bool exact)
     if (next_relocations(object, object->elf, NULL, &header) == NULL)
         return LISTED;
     Elf *elf = apply(object);
+    const char *why = elf == NULL ? dwfl_errmsg(-1) : NULL;
     if (elf == NULL)
-        return refuse(object, dwfl_errmsg(-1));
+        return refuse(object, why == NULL ? "its sections are damaged" : why);
     object->elf = elf;
     return judge(object, exact);
 }
