@@ -120,7 +120,7 @@ static bool is_harmless(const struct object *object, const GElf_Shdr *header, co
 {
     if (left->symbol.st_shndx == SHN_UNDEF)
         return true;
-    if (exact)
+    if (exact || left->symbol.st_shndx == SHN_XINDEX)
         return false;
     if (left->symbol.st_shndx != elf_ndxscn(object->abbrev))
         return true;
