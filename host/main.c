@@ -47,22 +47,33 @@ static int take_option(struct options *options, char **words, int i)
     return 1;
 }
 
+/* Takes the options out of the words and moves the files to the front; answers how many there are. */
+static int take_words(struct options *options, int count, char **words)
+{
+    int files = 0;
+    bool only_files = false;
+    for (int i = 1; i < count;) {
+        int taken = only_files || words[i][0] != '-' ? 0 : take_option(options, words, i);
+        if (taken != 0) {
+            i += taken;
+            continue;
+        }
+        if (only_files || words[i][0] != '-')
+            words[files++] = words[i];
+        else if (strcmp(words[i], "--") == 0)
+            only_files = true;
+        else
+            wrong("unknown option ", words[i]);
+        i++;
+    }
+    return files;
+}
+
 int main(int count, char **words)
 {
     struct options options = {false, false, false, false, false, 0};
+    int files = take_words(&options, count, words);
     enum status first = LISTED;
-    int files = 0;
-    bool is_file = false;
-    for (int i = 1; i < count;) {
-        int taken = is_file || words[i][0] != '-' ? 0 : take_option(&options, words, i);
-        if (taken == 0 && !is_file && strcmp(words[i], "--") == 0)
-            is_file = true, taken = 1;
-        else if (taken == 0 && !is_file && words[i][0] == '-')
-            wrong("unknown option ", words[i]);
-        else if (taken == 0)
-            words[files++] = words[i], taken = 1;
-        i += taken;
-    }
     if (files == 0)
         wrong("no file given", "");
     signal(SIGPIPE, SIG_IGN);
@@ -74,5 +85,5 @@ int main(int count, char **words)
             first = status;
     }
     out_end();
-    return first;
+    return (int)first;
 }
