@@ -37,16 +37,17 @@ static Elf_Scn *find(Elf *elf, const char *name)
 static bool gather(struct object *object)
 {
     size_t all = 0;
-    object->count = 0;
-    object->abbrev = NULL;
+    object->count = object->tables = 0;
     free(object->info);
     object->info = elf_getshdrnum(object->elf, &all) == 0 ? calloc(all + 1, sizeof *object->info) : NULL;
     for (Elf_Scn *section = NULL; object->info != NULL && (section = elf_nextscn(object->elf, section)) != NULL;) {
         const char *name = name_of(object->elf, section);
         if (strcmp(name, object->names.info) == 0 || strcmp(name, object->names.packed_info) == 0)
             object->info[object->count++] = section;
-        else if (object->abbrev == NULL && (strcmp(name, object->names.abbrev) == 0 || strcmp(name, object->names.packed_abbrev) == 0))
+        else if (strcmp(name, object->names.abbrev) == 0 || strcmp(name, object->names.packed_abbrev) == 0) {
+            object->tables++;
             object->abbrev = section;
+        }
     }
     return object->info != NULL;
 }
@@ -82,8 +83,8 @@ static enum status find_sections(struct object *object)
     }
     if (object->count == 0)
         return nothing(object);
-    if (object->abbrev == NULL) {
-        say("%s: no section %s", object->name, object->names.abbrev);
+    if (object->tables != 1) {
+        say("%s: %s section %s", object->name, object->tables == 0 ? "no" : "more than one", object->names.abbrev);
         return NOTHING;
     }
     if (find(object->elf, ".debug_cu_index") != NULL) {
@@ -142,6 +143,13 @@ void object_close(struct object *object)
     elf_end(object->own);
 }
 
+/* Older tools write "ZLIB" and the size before the compressed bytes; libdwfl may have unpacked them already. */
+static bool is_packed_as_before(const char *name, Elf_Scn *section)
+{
+    const Elf_Data *data = strstr(name, ".zdebug") == NULL ? NULL : elf_rawdata(section, NULL);
+    return data != NULL && data->d_buf != NULL && data->d_size >= 12 && memcmp(data->d_buf, "ZLIB", 4) == 0;
+}
+
 enum status object_bytes(const struct object *object, Elf_Scn *section, struct bytes *bytes)
 {
     static const uint8_t none;
@@ -153,9 +161,8 @@ enum status object_bytes(const struct object *object, Elf_Scn *section, struct b
         say("%s: the bytes of %s are not in this file", object->name, name);
         return NOTHING;
     }
-    bool is_old = strstr(name, ".zdebug") != NULL;
     if (((header.sh_flags & SHF_COMPRESSED) != 0 && elf_compress(section, 0, 0) < 0) ||
-        (is_old && elf_compress_gnu(section, 0, 0) < 0)) {
+        (is_packed_as_before(name, section) && elf_compress_gnu(section, 0, 0) < 0)) {
         say("%s: %s is compressed and cannot be unpacked: %s", object->name, name, elf_errmsg(-1));
         return PACKED;
     }

@@ -20,6 +20,7 @@ struct object {
     bool is_big;
     struct section_names names;
     Elf_Scn *abbrev;
+    size_t tables;  /* sections of tables; one is wanted */
     Elf_Scn **info; /* compilers put type units into sections of their own */
     size_t count;
     Elf *own;   /* the file */
