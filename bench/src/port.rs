@@ -92,6 +92,8 @@ pub fn list(abbrevs: &[u8], info: &[u8], t: &mut Table, text: &mut [u8], out: &m
             specs.as_mut_ptr(),
             specs.len(),
             0,
+            0,
+            0,
             text.as_mut_ptr(),
             text.len(),
             out.as_mut_ptr(),

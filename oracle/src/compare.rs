@@ -134,7 +134,7 @@ fn ask(case: &Case, x: &Answer, slack: usize, lent: &mut Lent) -> u64 {
         lent.specs.renew(case.lent.1);
     }
     if case.kind == LIST {
-        lent.text.renew(case.n[1] as usize);
+        lent.text.renew(case.n[3] as usize);
     }
     port::call(case, lent)
 }

@@ -1256,7 +1256,7 @@ pub fn units(rng: &mut Rng, sink: &mut Sink, sample: bool) -> bool {
         return false;
     }
     if port::LISTS && !u.is_big {
-        let mut case = Case::new(LIST, &section, &[0, rng.pick(&[0, 71, 72, 100, 400, 4000])]);
+        let mut case = Case::new(LIST, &section, &[0, 0, 0, rng.pick(&[0, 71, 72, 100, 400, 4000])]);
         case.second = Arc::new(table.section.clone());
         case.lent = ((shapes.len() + rng.below(2)) * 5, (table.size + rng.below(2)) * 3);
         case.n[0] = if rng.flip() { 0 } else { rng.below(most) as u64 };
@@ -1331,20 +1331,20 @@ fn listings(rng: &mut Rng, sink: &mut Sink) -> bool {
         damage(rng, which);
     }
     let info = Arc::new(info);
-    let mut first = 0;
+    let mut place = [0; 3];
     // in pieces
     let room = rng.pick(&[72, 100, 300, 1000, 8000]);
     for _ in 0..8 {
-        let mut case = Case::new(LIST, &info, &[first, room]);
+        let mut case = Case::new(LIST, &info, &[place[0], place[1], place[2], room]);
         case.second = Arc::new(abbrevs.clone());
         let less = rng.percent(3) as usize;
         case.lent = ((need.0 - less.min(need.0)) * 5 + rng.below(5), (need.1 + rng.below(3)) * 3);
         let answer = crate::compare::expected(&case);
-        let (lines, more) = (answer.words[1], answer.words[2]);
+        let more = answer.words[2];
+        place.copy_from_slice(&answer.words[3..6]);
         if !sink(case, Some(answer)) {
             return false;
         }
-        first += lines;
         if more == 0 {
             break;
         }

@@ -433,7 +433,7 @@ fn raw(case: &Case) -> Answer {
     let mut e = DebuggingInformationEntry::null();
     let mut a = Answer::default();
     for op in &case.calls {
-        let mut before = r.state();
+        let before = r.state();
         if *op == 0 {
             let said = r.raw.read_entry(&mut e);
             let status = match said {
@@ -463,10 +463,10 @@ fn raw(case: &Case) -> Answer {
             Err(x) => Err(number_in(&x, t, &mut a.classes)),
             Ok(None) => Ok(0),
             Ok(Some(x)) => {
-                before = r.state();
+                let after = r.state();
                 let specs = x.attributes();
                 let forms = specs.iter().map(|s| s.form().0 as u64);
-                if rules::skip_wraps(b, before.0, forms, c.version, c.is_64, c.width, c.is_big) {
+                if rules::skip_wraps(b, after.0, forms, c.version, c.is_64, c.width, c.is_big) {
                     // in a release build the sum wraps, in a checked build it panics
                     #[cfg(checked)]
                     {
@@ -789,7 +789,10 @@ pub fn tree(case: &Case, chooser: &mut dyn Chooser) -> (Answer, Vec<u64>) {
 
 // ---- the listing
 
-fn lines(case: &Case, lines: &mut Vec<String>, classes: &mut u32) -> std::result::Result<(), u64> {
+/// A line, and its place: the unit's offset, and the offset in the unit and the depth of its item.
+type Lines = Vec<(String, [u64; 3])>;
+
+fn lines(case: &Case, lines: &mut Lines, place: &mut [u64; 3], classes: &mut u32) -> std::result::Result<(), u64> {
     let (abbrevs, info) = (&case.second[..], &case.bytes[..]);
     let tables = DebugAbbrev::from(EndianSlice::new(abbrevs, RunTimeEndian::Little));
     let units = DebugInfo::from(EndianSlice::new(info, RunTimeEndian::Little));
@@ -797,10 +800,13 @@ fn lines(case: &Case, lines: &mut Vec<String>, classes: &mut u32) -> std::result
     let mut units = units.units();
     while let Some(h) = units.next().map_err(|e| number(&e))? {
         let bits = h.format().word_size() as u32 * 8;
-        lines.push(format!("unit {} {} {} {}", h.offset().0, h.version(), bits, h.address_size()));
+        lines.push((format!("unit {} {} {} {}", h.offset().0, h.version(), bits, h.address_size()), *place));
+        let next = [place[0] + h.length_including_self() as u64, 0, 0];
         if h.header_size() == h.length_including_self() {
+            *place = next;
             continue;
         }
+        *place = [place[0], h.header_size() as u64, 0];
         let (limited, _) = rules::table(abbrevs, h.debug_abbrev_offset().0 as u64, limits);
         if limited == 13 || limited == 15 {
             *classes |= if limited == 13 { PAIRS } else { ROWS_FULL };
@@ -810,27 +816,42 @@ fn lines(case: &Case, lines: &mut Vec<String>, classes: &mut u32) -> std::result
         let mut raw = h.entries_raw(&table, None).map_err(|e| number(&e))?;
         let mut e = DebuggingInformationEntry::null();
         while !raw.is_empty() {
-            if raw.read_entry(&mut e).map_err(|e| number(&e))? {
-                lines.push(format!("{} {} {:#x} {}", e.offset().0, e.depth(), e.tag().0, e.attrs().len()));
+            *place = [place[0], raw.next_offset().0 as u64, raw.next_depth() as u64];
+            let line = if raw.read_entry(&mut e).map_err(|e| number(&e))? {
+                format!("{} {} {:#x} {}", e.offset().0, e.depth(), e.tag().0, e.attrs().len())
             } else {
-                lines.push(format!("{} {} null", e.offset().0, e.depth()));
-            }
+                format!("{} {} null", e.offset().0, e.depth())
+            };
+            lines.push((line, *place));
         }
+        *place = next;
     }
-    lines.push("end".into());
+    lines.push(("end".into(), *place));
     Ok(())
 }
 
-fn listing(case: &Case) -> Answer {
+fn all_lines(case: &Case, classes: &mut u32) -> Lines {
     let mut all = Vec::new();
-    let mut a = Answer::default();
-    if let Err(n) = lines(case, &mut all, &mut a.classes) {
-        all.push(format!("refused {n}"));
+    let mut place = [0; 3];
+    if let Err(n) = lines(case, &mut all, &mut place, classes) {
+        all.push((format!("refused {n}"), place));
     }
-    let room = case.n[1] as usize;
+    all
+}
+
+/// The places that the listing of two sections can go on from.
+pub fn places(case: &Case) -> Vec<[u64; 3]> {
+    all_lines(case, &mut 0).into_iter().map(|l| l.1).collect()
+}
+
+fn listing(case: &Case) -> Answer {
+    let mut a = Answer::default();
+    let all = all_lines(case, &mut a.classes);
+    let room = case.n[3] as usize;
+    let from = all.iter().position(|l| l.1[..] == case.n[..3]).expect("a place of the listing");
+    let rest = &all[from..];
     let mut count = 0;
-    let rest = all.get(case.n[0].min(all.len() as u64) as usize..).unwrap_or(&[]);
-    for line in rest {
+    for (line, _) in rest {
         if a.text.len() + 72 > room {
             break;
         }
@@ -839,6 +860,7 @@ fn listing(case: &Case) -> Answer {
         count += 1;
     }
     a.words = vec![a.text.len() as u64, count as u64, (count < rest.len()) as u64];
+    a.words.extend(rest.get(count).map_or([0; 3], |l| l.1));
     a.text.resize(room, 0);
     a
 }

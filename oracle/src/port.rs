@@ -156,6 +156,8 @@ pub fn call(case: &Case, lent: &mut Lent) -> u64 {
                 lent.specs.as_mut_ptr(),
                 lent.specs.len(),
                 p[0] as usize,
+                p[1] as usize,
+                p[2] as i64,
                 lent.text.as_mut_ptr(),
                 lent.text.len(),
                 out,

@@ -68,10 +68,12 @@ pub fn pair(p: &Pair, c: &mut Comparer, rng: &mut Rng, most: usize) {
         }
         if port::LISTS && !p.is_big {
             // in a section of its own, with its own table
-            let mut case = Case::new(LIST, &p.info, &[rng.below(40) as u64, 4000]);
+            let mut case = Case::new(LIST, &p.info, &[0, 0, 0, 4000]);
             case.second = p.abbrev.clone();
             case.lent = (t.rows.len() + 5 * 300, t.specs.len() + 3 * 2000);
             if p.info.len() < 50_000 {
+                let places = crate::gimli_side::places(&case);
+                case.n[..3].copy_from_slice(&places[rng.below(places.len().min(40))]);
                 c.put(&case, None);
             }
         }

@@ -101,6 +101,14 @@ pub(crate) fn put5(out: &mut [u64], at: usize, a: u64, b: u64, c: u64, d: u64, e
     put2(out, first, d, e)
 }
 
+fn put6(out: &mut [u64], at: usize, a: u64, b: u64, c: u64, d: u64, e: u64, f: u64) -> usize
+    requires { ⌜ at ≤ length (now out) ⌝ }
+    ensures { λ r. ⌜ Put (now (out .entry)) (now (out .exit)) at r (a ∷ b ∷ c ∷ d ∷ e ∷ f ∷ []) ⌝ }
+{
+    let first = put3(out, at, a, b, c);
+    put3(out, first, d, e, f)
+}
+
 pub(crate) fn give2(out: &mut [u64], a: u64, b: u64) -> u64
     ensures { λ r. ⌜ Says 0 (a ∷ b ∷ []) (now (out .entry)) (now (out .exit)) r ⌝ }
 {
@@ -113,6 +121,14 @@ pub(crate) fn give3(out: &mut [u64], a: u64, b: u64, c: u64) -> u64
     ensures { λ r. ⌜ Says 0 (a ∷ b ∷ c ∷ []) (now (out .entry)) (now (out .exit)) r ⌝ }
 {
     let end = put3(out, 0, a, b, c);
+    clear_words(out, end);
+    0
+}
+
+pub(crate) fn give6(out: &mut [u64], a: u64, b: u64, c: u64, d: u64, e: u64, f: u64) -> u64
+    ensures { λ r. ⌜ Says 0 (a ∷ b ∷ c ∷ d ∷ e ∷ f ∷ []) (now (out .entry)) (now (out .exit)) r ⌝ }
+{
+    let end = put6(out, 0, a, b, c, d, e, f);
     clear_words(out, end);
     0
 }

@@ -5,3 +5,4 @@ pub mod ListLaws
 pub mod UnitLaws
 pub mod PartLaws
 pub mod WholeLaws
+pub mod PlaceLaws

@@ -28,8 +28,8 @@ use Rattle.entries.specs.declared.raw.Outcome.the-variants as outcome
 use Rattle.entries.proofs.CallsLaws.{passed-reading}
 use Rattle.entries.proofs.FlatLaws.{Stands}
 use Rattle.entries.proofs.RawLaws.{raw-keeps}
-use Rattle.entries.proofs.RunLaws.{behind, reading, reading-none, reading-item, reading-refused, words-length}
-use Rattle.entries.proofs.SeekLaws.{stands, item-kept}
+use Rattle.entries.proofs.RunLaws.{behind, next-kept, reading, reading-none, reading-item, reading-refused, words-length}
+use Rattle.entries.proofs.SeekLaws.{stands}
 use Rattle.listing.specs.Listing.{Placed, put, placeIn, itemLine, itemPlaced, itemsThen, readLines, itemLines}
 use Rattle.listing.specs.Text.{Line, entryLine, nullLine, refusedLine}
 use Rattle.listing.specs.Written.{Part, partOf, adds, Held, Added, Written, refusal, wordsLine, wordsLines, Items}
@@ -98,14 +98,14 @@ pub lines-behind : (unit start : ℕ) (l : List Item) (r : Reading) (rest : List
 lines-behind unit start l r rest = items-append unit l (r .items) _ ∙ items-then unit l _
 
 module _ (most : ℕ) (s rows specs : List ℕ) where
-  -- the state behind an item that was read
-  next-kept : (w : EntriesRaw) (i : Item) → KeptRaw (length s) w → itemNext most s rows specs w ≡ got i → KeptRaw (length s) (movedTo w (i .next) (afterEntry (i .value))) × (w .position < i .next)
-  next-kept w i k e =
+  -- behind an item that was read
+  after-item : (w : EntriesRaw) (i : Item) → KeptRaw (length s) w → itemNext most s rows specs w ≡ got i → KeptRaw (length s) (movedTo w (i .next) (afterEntry (i .value))) × (w .position < i .next)
+  after-item w i k e =
       let z : Stands most (sourceOf w) s rows specs (w .position) (w .depth) i = rw e at (stands most s rows specs w) in
-      (subst (λ (d : ℤ). KeptRaw (length s) (movedTo w (i .next) d)) (z .after) (item-kept most s rows specs w i k e), z .above)
+      (next-kept most s rows specs w i k e, z .above)
 
   -- by how a reading starts: with nothing, with a refusal, or with an item
-  starts : (w : EntriesRaw) (P : Reading → Type 0) → (length s ≤ w .position → P nothing)
+  pub starts : (w : EntriesRaw) (P : Reading → Type 0) → (length s ≤ w .position → P nothing)
       → ((n : ℕ) → w .position < length s → P (record { items = []; stop = some (record { number = n; at = w .position; depth = w .depth }) }))
       → ((i : Item) → w .position < length s → itemNext most s rows specs w ≡ got i → P (behind (i ∷ []) (reading most s rows specs (movedTo w (i .next) (afterEntry (i .value))))))
       → P (reading most s rows specs w)
@@ -125,7 +125,7 @@ module _ (most : ℕ) (s rows specs : List ℕ) where
   reading-all P f zero w k l = starts w (λ r. All P (r .items)) (λ _. tt) (λ n h. tt) (λ i h e. absurd (omega arith))
   reading-all P f (suc n) w k l =
       starts w (λ r. All P (r .items)) (λ _. tt) (λ n h. tt)
-      (λ i h e. let z = next-kept w i k e in (f w k i e, reading-all P f n (movedTo w (i .next) (afterEntry (i .value))) (z .0) (omega (arith, z .1))))
+      (λ i h e. let z = after-item w i k e in (f w k i e, reading-all P f n (movedTo w (i .next) (afterEntry (i .value))) (z .0) (omega (arith, z .1))))
 
   -- items go on
   reading-up : (n : ℕ) (w : EntriesRaw) → KeptRaw (length s) w → length s ≤ n + w .position → (m : ℕ) → w .position ≤ placeAt (w .position) (reading most s rows specs w .items) m
@@ -133,7 +133,7 @@ module _ (most : ℕ) (s rows specs : List ℕ) where
   reading-up zero w k l (suc m) = starts w (λ r. w .position ≤ placeAt (w .position) (r .items) (suc m)) (λ _. omega arith) (λ n h. omega arith) (λ i h e. absurd (omega arith))
   reading-up (suc n) w k l (suc m) =
       starts w (λ r. w .position ≤ placeAt (w .position) (r .items) (suc m)) (λ _. omega arith) (λ n h. omega arith)
-      (λ i h e. let z = next-kept w i k e in omega (arith, z .1, reading-up n (movedTo w (i .next) (afterEntry (i .value))) (z .0) (omega (arith, z .1)) m))
+      (λ i h e. let z = after-item w i k e in omega (arith, z .1, reading-up n (movedTo w (i .next) (afterEntry (i .value))) (z .0) (omega (arith, z .1)) m))
 
   -- a reading that is only a refusal is of the item that is read next
   refused-here : (w : EntriesRaw) (x : Stop) → reading most s rows specs w .items ≡ [] → reading most s rows specs w .stop ≡ some x → (x .at ≡ w .position) × (x .depth ≡ w .depth)
@@ -180,7 +180,7 @@ module _ (most : ℕ) (s rows specs : List ℕ) where
         by (suc m) h =
             starts w (λ r. firstOf (suc m) w r .answer ≡ got u → w .position < firstOf (suc m) w r .raw .position) (λ q. absurd (omega arith))
             (λ n q a. absurd (let e : refused n ≡ got u = sym (ap (λ (b : Bool). cond b (refused n) (got tt)) (lt-ltb 0 (suc m) (omega arith))) ∙ a in let z : _≡_ {A = ℕ} 0 1 = cc in omega arith))
-            (λ i q e a. let z = next-kept w i k e in omega (arith, z .1, reading-up (length s) (movedTo w (i .next) (afterEntry (i .value))) (z .0) (omega arith) m))
+            (λ i q e a. let z = after-item w i k e in omega (arith, z .1, reading-up (length s) (movedTo w (i .next) (afterEntry (i .value))) (z .0) (omega arith) m))
 
     abbrev R : Reading
     R = reading most s rows specs w

@@ -4,7 +4,7 @@ use mathlib.Core.Path.{_≡_, refl, sym, ap, _∙_, subst}
 use mathlib.Core.List.{List, [], _∷_, _++_}
 use Prim.Native.Nat.{ℕ, _+_, _-_, _*_, _/_, _≤_, _<_}
 use native.Mathlib.Omega.{arith}
-use borrow.Author.Tests.{eq-eqb, ne-eqb, le-leb, lt-leb}
+use borrow.Author.Tests.{eq-eqb, ne-eqb, leb-true, le-leb, lt-leb}
 use lib.Dec.{eqb, leb}
 use lib.IntN.{ℤ, pos}
 use Rattle.reader.specs.Fields.{wordSize, initialLengthSize}
@@ -61,6 +61,15 @@ module _ (h : UnitHeader) (s : List ℕ) (p : ListingPlace) where
     pub state-broken : {w : EntriesRaw} → w ≡ at → keepsRaw (length s) w ≡ false → refused 1 ≡ stateAt h s p
     unfolding stateAt
     state-broken f k = rw (le-leb (sizeOfHeader h) (p .offset) e, sym (ap (keepsRaw (length s)) f) ∙ k)
+
+  -- a state that is there is at the place
+  pub state-in : {w : EntriesRaw} → stateAt h s p ≡ got w → (at ≡ w) × (sizeOfHeader h ≤ p .offset)
+  unfolding stateAt
+  state-in {w} e = by (leb (sizeOfHeader h) (p .offset) && keepsRaw (length s) at) refl e
+    where
+      by : (b : Bool) → leb (sizeOfHeader h) (p .offset) && keepsRaw (length s) at ≡ b → cond b (got at) (refused 1) ≡ got w → (at ≡ w) × (sizeOfHeader h ≤ p .offset)
+      by true q f = let z : at ≡ w = cc in (z, leb-true (sizeOfHeader h) (p .offset) (both (leb (sizeOfHeader h) (p .offset)) (keepsRaw (length s) at) q .0))
+      by false q f = absurd (let z : _≡_ {A = ℕ} 0 1 = cc in omega arith)
 
   -- a state that is there keeps the sizes
   pub state-kept : {w : EntriesRaw} → stateAt h s p ≡ got w → KeptRaw (length s) w

@@ -96,6 +96,10 @@ added-in {out} {p = p} {ls = ls} e d = ap (λ (k : ℕ). adds k (partOf p out) l
 pub added-as : {out out' : List ℕ} {p r : Piece} {ls ms : List Placed} → ls ≡ ms → Added out out' p ls r → Added out out' p ms r
 added-as {out} {out'} {p} {r} e d = subst (λ (x : List Placed). Added out out' p x r) e d
 
+-- at the same place
+pub added-at : {out out' : List ℕ} {p r : Piece} {a b : ListingPlace} {l : Line} → a ≡ b → Added out out' p (put a l ∷ []) r → Added out out' p (put b l ∷ []) r
+added-at {out} {out'} {p} {r} {l = l} e d = subst (λ (x : ListingPlace). Added out out' p (put x l ∷ []) r) e d
+
 pub written-in : {out out' : List ℕ} {n : ℕ} {p : Piece} {all : List Placed → List Placed} {r : Wrote} → length out ≡ n → Written out out' p all r → (rest : List Placed)
     → adds n (partOf p out) (all rest) ≡ cond (r .stopped) (partOf (r .piece) out') (adds n (partOf (r .piece) out') rest)
 written-in {out} {out'} {n} {p} {all} {r} e w rest =

@@ -126,14 +126,14 @@ unfolding sizeOfHeader
 size-some h = omega arith
 
 module _ (x : Shelf) where
-  abbrev answerAt : ℕ → Answer (Option UnitHeader)
+  abbrev pub answerAt : ℕ → Answer (Option UnitHeader)
   answerAt at = nextUnit (x .info) at Little .answer
 
-  abbrev behind : ℕ → ℕ
+  abbrev pub behind : ℕ → ℕ
   behind at = nextUnit (x .info) at Little .offset
 
   -- what follows the list's answer, with the lines of the other units
-  abbrev unitsBy : (ℕ → List Placed) → ℕ → Option UnitHeader → List Placed
+  abbrev pub unitsBy : (ℕ → List Placed) → ℕ → Option UnitHeader → List Placed
   unitsBy more at o = ifSome o (put (placeOf at) endLine ∷ []) (λ h. unitAll x at h (more (behind at)))
 
   same-by : (f g : ℕ → List Placed) (at : ℕ) → ((h : UnitHeader) → answerAt at ≡ got (some h) → f (behind at) ≡ g (behind at)) → orStop (placeOf at) (answerAt at) (unitsBy f at) ≡ orStop (placeOf at) (answerAt at) (unitsBy g at)
@@ -144,7 +144,7 @@ module _ (x : Shelf) where
       go (got (some u)) q = ap (λ (l : List Placed). unitAll x at u l) (h u q)
       go (refused n) q = refl
 
-  further-unit : (at : ℕ) (h : UnitHeader) → answerAt at ≡ got (some h) → at < behind at
+  pub further-unit : (at : ℕ) (h : UnitHeader) → answerAt at ≡ got (some h) → at < behind at
   further-unit at h e = let z = unit-in (x .info) at e in omega (arith, z .next-is, z .header, size-some h)
 
   units-same : (n m at : ℕ) → at ≤ length (x .info) → length (x .info) < n + at → length (x .info) < m + at → unitsWithin x n at ≡ unitsWithin x m at

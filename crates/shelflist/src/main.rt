@@ -8,6 +8,7 @@ use libc::STDOUT_FILENO;
 use listing::input::Input;
 use listing::input::sections;
 use listing::list::list;
+use listing::piece::ListingPlace;
 use unit::range::part;
 
 // Every line takes a byte of the second section, but for the last.
@@ -31,16 +32,22 @@ fn input_buffer() -> [u8; 65544]
 fn list_pieces(abbrevs: &[u8], info: &[u8], rows: &mut [u64], specs: &mut [u64], out: &mut [u8])
     requires { ⌜ 262144 ≡ length (now out) ⌝ }
 {
-    let mut first: usize = 0;
-    while first < MOST_LINES {
-        let piece = list(abbrevs, info, rows, specs, first, out);
+    let mut place = ListingPlace {
+        unit: 0,
+        offset: 0,
+        depth: 0,
+    };
+    let mut lines: usize = 0;
+    while lines < MOST_LINES {
+        let piece = list(abbrevs, info, rows, specs, place, out);
         let end = piece.bytes;
         let is_written = io::write_all(STDOUT_FILENO, &out[..end]);
         if !is_written {
             return;
         }
         if piece.more {
-            first += piece.lines;
+            lines += piece.lines;
+            place = piece.place;
         } else {
             return;
         }

@@ -69,7 +69,7 @@ returns-2 : tie.Need-returns-2
 returns-2 c =
     let a = c .before .before .before .before .before .before .before .before .before .before .before .before .before .before .before .before .before .before .before .before .before .before .before .before .before .before .before .before .before .before .before .before .args in
     let x : Shelf = record { abbrevs = a .abbrevs .now; info = a .info .now; rows = length (a .rows .now); specs = length (a .specs .now) } in
-    inner-further x (a .place) (sym (ap (λ (y : Advanced). y .answer) (c .before .before .before .before .before .before .before .before .before .before .before .before .before .before .before .before .before .before .before .before .before .before .before .before .before .before .next .ensures)) ∙ ap viewNextUnit (c .before .before .before .before .before .before .before .before .before .before .before .before .before .before .before .before .before .before .before .before .before .before .before .unit .given .1)) (c .before .before .before .before .before .before .before .before .before .before .before .before .before .before .before .before .before .before .list-unit .ensures) (c .before .before .before .before .before .before .before .before .before .before .before .if1 .left) (c .before .before .before .before .before .before .before .before .before .before .before .before .before .before .before .before .before .before .list-unit .kept .1 .1 .1 .1 .1 .1 .0) (added-as (ap (unitLines x) (ap (λ (y : Advanced). y .offset) (c .before .before .before .before .before .before .before .before .before .before .before .before .before .before .before .before .before .before .before .before .before .before .before .before .before .before .next .ensures))) (added-same x (λ (y : Shelf). unitLines y _) (c .before .before .before .before .before .before .before .before .before .before .before .before .before .before .before .before .before .before .list-unit .kept .1 .1 .1 .1 .0) (c .before .before .before .before .before .before .before .before .before .before .before .before .before .before .before .before .before .before .list-unit .kept .1 .1 .1 .1 .1 .0) (c .before .before .before .before .before .before .list-units .ensures)))
+    inner-further x (a .place) (sym (ap (λ (y : Advanced). y .answer) (c .before .before .before .before .before .before .before .before .before .before .before .before .before .before .before .before .before .before .before .before .before .before .before .before .before .before .next .ensures)) ∙ ap viewNextUnit (c .before .before .before .before .before .before .before .before .before .before .before .before .before .before .before .before .before .before .before .before .before .before .before .unit .given .1)) (c .before .before .before .before .before .before .before .before .before .before .before .before .before .before .before .before .before .before .list-unit .ensures) (c .before .before .before .before .before .before .before .before .before .before .before .if1 .left) (c .before .before .before .before .before .before .before .before .before .before .before .before .before .before .before .before .before .before .list-unit .kept .1 .1 .1 .1 .1 .1 .0) (added-as (ap (unitLines x) (ap (λ (y : Advanced). y .offset) (c .before .before .before .before .before .before .before .before .before .before .before .before .before .before .before .before .before .before .before .before .before .before .before .before .before .before .next .ensures))) (added-same x (λ (y : Shelf). unitLines y (c .before .before .before .before .before .before .before .before .before .before .before .before .before .before .before .before .before .before .before .before .before .before .before .before .before .before .next .result .units .offset)) (c .before .before .before .before .before .before .before .before .before .before .before .before .before .before .before .before .before .before .list-unit .kept .1 .1 .1 .1 .0) (c .before .before .before .before .before .before .before .before .before .before .before .before .before .before .before .before .before .before .list-unit .kept .1 .1 .1 .1 .1 .0) (c .before .before .before .before .before .before .list-units .ensures)))
 
 same-length-7 : tie.Need-same-length-7
 same-length-7 c = search needs

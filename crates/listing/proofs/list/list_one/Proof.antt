@@ -1,12 +1,10 @@
 use Rattle.listing.proofs.PartLaws.{one-written, one-full, head-is}
-use Rattle.listing.proofs.PieceLaws.{added-as}
-use Rattle.listing.specs.Listing.{put, placeIn}
+use Rattle.listing.proofs.PieceLaws.{added-at}
+use Rattle.listing.specs.Listing.{placeIn}
 use Rattle.listing.specs.Text.{unitLine}
-use Rattle.listing.specs.declared.piece.ListingPlace.{ListingPlace}
 use Rattle.reader.specs.Fields.{wordSize}
 use lib.IntN.{pos}
 use lib.ListN.{length}
-use mathlib.Core.List.{[], _∷_}
 use mathlib.Core.Path.{ap, _∙_}
 use Prim.Native.Nat.{ℕ}
 use borrow.Author.Needs.{needs}
@@ -44,7 +42,7 @@ same-length : tie.Need-same-length
 same-length c = search needs
 
 returns : tie.Need-returns
-returns c = let a = c .before .before .before .before .before .before .before .before .before .before .before .before .before .before .before .before .args in one-full (record { abbrevs = a .abbrevs .now; info = a .info .now; rows = length (a .rows .now); specs = length (a .specs .now) }) (a .at) (a .header) (unitLine _ _ _ _) (head-is (a .header) (c .before .before .before .before .before .before .before .before .before .before .offset .ensures) (c .before .before .before .before .before .before .before .before .before .version .ensures) (c .before .before .before .before .before .before .word-size .ensures ∙ ap wordSize (c .before .before .before .before .before .before .before .before .format .ensures)) (c .before .before .before .before .before .before .before .address-size .ensures)) (c .before .before .before .add .kept .1 .0) (added-as (ap (λ (b : ListingPlace). put b (unitLine _ _ _ _) ∷ []) (c .before .before .before .before .before .unit-place .ensures)) (c .before .before .before .add .ensures)) (c .if1 .taken)
+returns c = let a = c .before .before .before .before .before .before .before .before .before .before .before .before .before .before .before .before .args in one-full (record { abbrevs = a .abbrevs .now; info = a .info .now; rows = length (a .rows .now); specs = length (a .specs .now) }) (a .at) (a .header) (unitLine _ _ _ _) (head-is (a .header) (c .before .before .before .before .before .before .before .before .before .before .offset .ensures) (c .before .before .before .before .before .before .before .before .before .version .ensures) (c .before .before .before .before .before .before .word-size .ensures ∙ ap wordSize (c .before .before .before .before .before .before .before .before .format .ensures)) (c .before .before .before .before .before .before .before .address-size .ensures)) (c .before .before .before .add .kept .1 .0) (added-at (c .before .before .before .before .before .unit-place .ensures) (c .before .before .before .add .ensures)) (c .if1 .taken)
 
 root-offset-requires : tie.Need-root-offset-requires
 root-offset-requires c κs = search needs
@@ -65,7 +63,7 @@ same-length-4 : tie.Need-same-length-4
 same-length-4 c = search needs
 
 returns-2 : tie.Need-returns-2
-returns-2 c = let a = c .before .before .before .before .before .before .before .before .before .before .before .before .before .before .before .before .before .before .before .before .before .before .before .before .before .before .before .before .args in one-written (record { abbrevs = a .abbrevs .now; info = a .info .now; rows = length (a .rows .now); specs = length (a .specs .now) }) (a .at) (a .header) (unitLine _ _ _ _) (head-is (a .header) (c .before .before .before .before .before .before .before .before .before .before .before .before .before .before .before .before .before .before .before .before .before .before .offset .ensures) (c .before .before .before .before .before .before .before .before .before .before .before .before .before .before .before .before .before .before .before .before .before .version .ensures) (c .before .before .before .before .before .before .before .before .before .before .before .before .before .before .before .before .before .before .word-size .ensures ∙ ap wordSize (c .before .before .before .before .before .before .before .before .before .before .before .before .before .before .before .before .before .before .before .before .format .ensures)) (c .before .before .before .before .before .before .before .before .before .before .before .before .before .before .before .before .before .before .before .address-size .ensures)) (c .before .before .before .before .before .before .before .before .before .before .before .before .before .before .before .add .kept .1 .0) (added-as (ap (λ (b : ListingPlace). put b (unitLine _ _ _ _) ∷ []) (c .before .before .before .before .before .before .before .before .before .before .before .before .before .before .before .before .before .unit-place .ensures)) (c .before .before .before .before .before .before .before .before .before .before .before .before .before .before .before .add .ensures)) (c .before .before .before .before .before .before .before .before .before .before .unit-place2 .ensures ∙ ap (λ (n : ℕ). placeIn (a .at) n (pos 0)) (c .before .before .before .before .before .before .before .before .before .before .before .root-offset .ensures)) (c .before .before .before .before .before .before .list-unit .ensures)
+returns-2 c = let a = c .before .before .before .before .before .before .before .before .before .before .before .before .before .before .before .before .before .before .before .before .before .before .before .before .before .before .before .before .args in one-written (record { abbrevs = a .abbrevs .now; info = a .info .now; rows = length (a .rows .now); specs = length (a .specs .now) }) (a .at) (a .header) (unitLine _ _ _ _) (head-is (a .header) (c .before .before .before .before .before .before .before .before .before .before .before .before .before .before .before .before .before .before .before .before .before .before .offset .ensures) (c .before .before .before .before .before .before .before .before .before .before .before .before .before .before .before .before .before .before .before .before .before .version .ensures) (c .before .before .before .before .before .before .before .before .before .before .before .before .before .before .before .before .before .before .word-size .ensures ∙ ap wordSize (c .before .before .before .before .before .before .before .before .before .before .before .before .before .before .before .before .before .before .before .before .format .ensures)) (c .before .before .before .before .before .before .before .before .before .before .before .before .before .before .before .before .before .before .before .address-size .ensures)) (c .before .before .before .before .before .before .before .before .before .before .before .before .before .before .before .add .kept .1 .0) (added-at (c .before .before .before .before .before .before .before .before .before .before .before .before .before .before .before .before .before .unit-place .ensures) (c .before .before .before .before .before .before .before .before .before .before .before .before .before .before .before .add .ensures)) (c .before .before .before .before .before .before .before .before .before .before .unit-place2 .ensures ∙ ap (λ (n : ℕ). placeIn (a .at) n (pos 0)) (c .before .before .before .before .before .before .before .before .before .before .before .root-offset .ensures)) (c .before .before .before .before .before .before .list-unit .ensures)
 
 pub list-one-spec : {M : Type 1} → statement M
 list-one-spec =
