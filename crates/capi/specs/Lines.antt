@@ -3,7 +3,7 @@ use mathlib.Core.List.{List, [], _∷_}
 use Prim.Native.Nat.{ℕ}
 use Rattle.listing.specs.Listed.{ListedAs}
 use Rattle.listing.specs.declared.list.Listed.{Listed}
-use Rattle.listing.specs.declared.piece.ListingPlace.{ListingPlace}
+use Rattle.listing.specs.declared.place.ListingPlace.{ListingPlace}
 use Rattle.reader.specs.Twos.{word}
 use Rattle.capi.specs.Words.{Says, bit}
 

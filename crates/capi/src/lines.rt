@@ -5,7 +5,7 @@ ghost use Rattle.capi.specs.Lines.{ListedWords};
 use super::out::bit_of;
 use super::out::give6;
 use listing::list::list;
-use listing::piece::ListingPlace;
+use listing::place::ListingPlace;
 use reader::twos::to_word;
 
 // The lines of the listing of two little-endian sections from a place on, zeros for the whole, that `text`

@@ -1,14 +1,14 @@
 -- A state that keeps 01's sizes hands back one that keeps them, and new ones keep them.
-use mathlib.Core.Bool.{Bool, true, false, _&&_}
-use mathlib.Core.Path.{_≡_, refl, ap}
+use mathlib.Core.Bool.{Bool, true, false, cond, _&&_}
+use mathlib.Core.Path.{_≡_, refl, sym, ap, _∙_}
 use mathlib.Core.List.{List, [], _∷_}
 use mathlib.Core.Option.{Option, none, some}
 use Prim.Native.Nat.{ℕ, zero, suc, _+_, _-_, _^_, _≤_, _<_}
 use native.Mathlib.Omega.{arith}
-use borrow.Author.Tests.{leb-true, leb-false, le-leb}
+use borrow.Author.Tests.{leb-true, leb-false, le-leb, lt-ltb}
 use lib.Dec.{leb, ltb}
 use lib.IntN.{ℤ, natAbs}
-use lib.ListN.{length}
+use lib.ListN.{length, take, drop, length-take, length-drop}
 use Rattle.reader.specs.Answer.{Answer, got, refused, andThen, Read, gives, Holds}
 use Rattle.reader.specs.declared.common.Encoding.{Encoding}
 use Rattle.reader.specs.declared.endianity.RunTimeEndian.{RunTimeEndian}
@@ -22,12 +22,13 @@ use Rattle.attribute.specs.Skip.{pastValue, pastValues}
 use Rattle.attribute.specs.Value.{Attribute}
 use Rattle.attribute.proofs.FormLaws.{both}
 use Rattle.attribute.proofs.ReadLaws.{Onward, Past, value-onward, attribute-past, attributes-past}
-use Rattle.unit.specs.Header.{sizeOfHeader}
-use Rattle.unit.specs.Range.{entriesBuf, rangeFrom}
+use Rattle.reader.specs.Sizes.{maxSection}
+use Rattle.unit.specs.Header.{sizeOfHeader, unitEnd}
+use Rattle.unit.specs.Range.{part, unitBytes, entriesBuf, rangeFrom}
 use Rattle.unit.specs.declared.header.UnitHeader.{UnitHeader}
 use Rattle.entries.specs.Cursor.{Cursor, newCursor, openedCursor, keepsCursor, Called, goOn, turned, reached, settled, plainly, byJump, isEntry, standsAt, held, itemNext, advanced, nextEntry, nextChild, seekWithin, seek, nextDfs, toDepth, nextAtDepth, nextSibling}
 use Rattle.entries.specs.Entry.{Entry, entryOf, isNull}
-use Rattle.entries.specs.Open.{rawFrom, cursorOver, cursorFrom}
+use Rattle.entries.specs.Open.{rawFrom, cursorOver, cursorFrom, ownUnit}
 use Rattle.entries.specs.Raw.{keepsRaw, movedTo, opened, moves, judged, sourceOf, taken, listedIn, skipped, rawAbbreviation, rawEntry, rawAttribute, rawAttributes, rawSkip}
 use Rattle.entries.specs.Read.{abbreviationAt, depthAfter, entryAfter, entryAt}
 use Rattle.entries.specs.Steps.{KeptRaw}
@@ -287,3 +288,32 @@ module _ (h : UnitHeader) (u : List ℕ) {s : List ℕ} where
   pub cursor-from-keeps : (most offset : ℕ) (e : RunTimeEndian) → rangeFrom h u offset ≡ got s → Holds (λ c. keepsCursor most (length s) c ≡ true) (cursorFrom h u most offset e)
   unfolding cursorFrom
   cursor-from-keeps most offset e q = rw q (opened-cursor-keeps most (length s) offset (h .encoding) e)
+
+-- a part lies inside
+part-in : (s : List ℕ) (a b : ℕ) {r : List ℕ} → part s a b ≡ got r → (a + length r ≤ length s) × (length r ≤ length s)
+unfolding part
+part-in s a b {r} e = by (leb a b && leb b (length s)) refl e
+  where
+    by : (c : Bool) → leb a b && leb b (length s) ≡ c → cond c (got (take (b - a) (drop a s))) (refused 19) ≡ got r → (a + length r ≤ length s) × (length r ≤ length s)
+    by true q f =
+        let h = both (leb a b) (leb b (length s)) q in
+        let z : take (b - a) (drop a s) ≡ r = cc in
+        let m = ap length (sym z) ∙ length-take (b - a) (drop a s) in
+        let n = length-drop a s in
+        let o = leb-true a b (h .0) in
+        let p = leb-true b (length s) (h .1) in
+        (omega (arith, m, n, o, p), omega (arith, m, n, o, p))
+    by false q f = let z : _≡_ {A = ℕ} 0 1 = cc in absurd (omega arith)
+
+-- the cursor that `open_unit` hands back, over the bytes of the unit's entries
+pub own-unit-keeps : (most : ℕ) (h : UnitHeader) (e : RunTimeEndian) (info : List ℕ) {u s : List ℕ} → unitBytes h info ≡ got u → entriesBuf h u ≡ got s → keepsCursor most (length s) (ownUnit most h e .cursor) ≡ true
+unfolding unitBytes entriesBuf
+own-unit-keeps most h e info {u} {s} p q = by (leb (length info) maxSection) refl p
+  where
+    by : (b : Bool) → leb (length info) maxSection ≡ b → cond b (part info (h .offset) (h .offset + unitEnd h)) (refused 1) ≡ got u → keepsCursor most (length s) (ownUnit most h e .cursor) ≡ true
+    by true r f =
+        let i = leb-true (length info) maxSection r in
+        let x = part-in info (h .offset) (h .offset + unitEnd h) f in
+        let y = part-in u (sizeOfHeader h) (unitEnd h) q in
+        rw (le-leb 0 (length s) (omega arith), lt-ltb (sizeOfHeader h + length s) (2 ^ 63) (omega (arith, i, x .1, y .0)), le-leb 0 most (omega arith))
+    by false r f = let z : _≡_ {A = ℕ} 0 1 = cc in absurd (omega arith)

@@ -34,7 +34,7 @@ use Rattle.listing.specs.Listing.{Placed, put, placeIn, itemLine, itemPl
 use Rattle.listing.specs.Text.{Line, entryLine, nullLine, refusedLine}
 use Rattle.listing.specs.Written.{Part, partOf, adds, Held, Added, Written, refusal, wordsLine, wordsLines, Items}
 use Rattle.listing.specs.declared.list.Wrote.{Wrote}
-use Rattle.listing.specs.declared.piece.ListingPlace.{ListingPlace}
+use Rattle.listing.specs.declared.place.ListingPlace.{ListingPlace}
 use Rattle.listing.specs.declared.piece.Piece.{Piece}
 use Rattle.listing.proofs.PieceLaws.{added-in, written-in, adds-full, adds-append, full-or}
 

@@ -31,7 +31,7 @@ use Rattle.listing.specs.Listing.{Placed, placeIn, placeOf, put, orStop,
 use Rattle.listing.specs.Text.{Line, unitLine}
 use Rattle.listing.specs.Written.{Part, partOf, add, adds, Held, Added, Written, refusal, Fit}
 use Rattle.listing.specs.declared.list.Wrote.{Wrote}
-use Rattle.listing.specs.declared.piece.ListingPlace.{ListingPlace}
+use Rattle.listing.specs.declared.place.ListingPlace.{ListingPlace}
 use Rattle.listing.specs.declared.piece.Piece.{Piece}
 use Rattle.listing.proofs.PieceLaws.{adds-full, written-in}
 use Rattle.listing.proofs.UnitLaws.{laid-lines}

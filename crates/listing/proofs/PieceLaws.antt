@@ -13,9 +13,9 @@ use Rattle.reader.specs.Twos.{twos}
 use Rattle.listing.specs.Listing.{Placed, placeIn, placeOf, put}
 use Rattle.listing.specs.Piece.{texts, room, fitting, firstPlace}
 use Rattle.listing.specs.Text.{Line, entryLine, nullLine, refusedLine, text}
-use Rattle.listing.specs.Written.{Put, Part, partOf, add, adds, Held, Lined, Added, Written, refusal, wordsLine, wordsLines}
+use Rattle.listing.specs.Written.{Put, Part, partOf, add, adds, Held, Lined, Added, Written, refusal, itemText, wordsLine, wordsLines}
 use Rattle.listing.specs.declared.list.Wrote.{Wrote}
-use Rattle.listing.specs.declared.piece.ListingPlace.{ListingPlace}
+use Rattle.listing.specs.declared.place.ListingPlace.{ListingPlace}
 use Rattle.listing.specs.declared.piece.Piece.{Piece}
 use Rattle.listing.proofs.TextLaws.{text-some, Fitted, line-ends}
 
@@ -110,14 +110,28 @@ written-in {out} {out'} {n} {p} {all} {r} e w rest =
 pub stopped-by : {out out' : List ℕ} {n : ℕ} {p r : Piece} {a : ListingPlace} → Added out out' p (put a (refusedLine n) ∷ []) r → Written out out' p (refusal a n) (record { piece = r; stopped = true })
 stopped-by d = record { held = d .held; is = λ rest. sym (d .is) }
 
+-- a full piece takes no line
+pub added-all : (out : List ℕ) (p : Piece) (ls : List Placed) → Held (length out) p → p .full ≡ true → Added out out p ls p
+added-all out p ls h e = record { held = h; is = sym (adds-full (length out) (partOf p out) ls e) }
+
 -- ---- the words of items
 
-module _ (unit offset depth tag count : ℕ) {out out' : List ℕ} {p r : Piece} {d : ℤ} (e : d ≡ twos 64 depth) where
-  pub item-null : tag ≡ 0 → Added out out' p (put (placeIn unit offset d) (nullLine offset d) ∷ []) r → Added out out' p (wordsLine unit offset depth tag count ∷ []) r
-  item-null f a = added-as (ap (λ (z : ℤ). put (placeIn unit offset z) (nullLine offset z) ∷ []) e ∙ sym (ap (λ (b : Bool). put (placeIn unit offset (twos 64 depth)) (cond b (nullLine offset (twos 64 depth)) (entryLine offset (twos 64 depth) tag count)) ∷ []) (eq-eqb tag 0 f))) a
+-- the line of an item with or without a tag
+pub text-null : (offset tag count : ℕ) (d : ℤ) → tag ≡ 0 → itemText offset d tag count ≡ nullLine offset d
+text-null offset tag count d e = ap (λ (b : Bool). cond b (nullLine offset d) (entryLine offset d tag count)) (eq-eqb tag 0 e)
 
-  pub item-entry : (tag ≡ 0 → ⊥) → Added out out' p (put (placeIn unit offset d) (entryLine offset d tag count) ∷ []) r → Added out out' p (wordsLine unit offset depth tag count ∷ []) r
-  item-entry f a = added-as (ap (λ (z : ℤ). put (placeIn unit offset z) (entryLine offset z tag count) ∷ []) e ∙ sym (ap (λ (b : Bool). put (placeIn unit offset (twos 64 depth)) (cond b (nullLine offset (twos 64 depth)) (entryLine offset (twos 64 depth) tag count)) ∷ []) (ne-eqb tag 0 f))) a
+pub text-entry : (offset tag count : ℕ) (d : ℤ) → (tag ≡ 0 → ⊥) → itemText offset d tag count ≡ entryLine offset d tag count
+text-entry offset tag count d e = ap (λ (b : Bool). cond b (nullLine offset d) (entryLine offset d tag count)) (ne-eqb tag 0 e)
+
+-- a piece with room
+abbrev pub open-piece : ℕ → ℕ → ListingPlace → Piece
+open-piece lines end a = record { lines = lines; end = end; full = false; place = a }
+
+pub not-full : (p : Piece) → p .full ≡ false → p ≡ open-piece (p .lines) (p .end) (p .place)
+not-full p e = ap (λ (b : Bool). with-full b) e
+  where
+    with-full : Bool → Piece
+    with-full b = record { lines = p .lines; end = p .end; full = b; place = p .place }
 
 module _ (unit count : ℕ) (words : List ℕ) where
   -- lines that were added, and those still to come
@@ -149,6 +163,30 @@ module _ (unit count : ℕ) (words : List ℕ) where
           is = t .is ∙ ap (adds (length out₀) (partOf q out)) (first-line h)
               ∙ ap (λ (y : Part). adds (length out₀) y (wordsLines unit (count - (i + 1)) (drop ((i + 1) * 4) words))) (added-in (t .same) d);
         }
+
+    -- the line of an item, at its place
+    pub adding-line : {out' : List ℕ} {lines end r : ℕ} {a : ListingPlace} {d : ℤ} → q ≡ open-piece lines end a → i < count → d ≡ twos 64 (getD words (i * 4 + 1) 0) → 72 ≤ length out - end → length out' ≡ length out
+        → Lined out out' end (itemText (getD words (i * 4) 0) d (getD words (i * 4 + 2) 0) (getD words (i * 4 + 3) 0)) r → Adding out₀ p out' (open-piece (lines + 1) r a) (i + 1)
+    adding-line {out'} {lines} {end} {r} {a} {d} e h f j l z =
+        let w : Lined out out' end (itemText (getD words (i * 4) 0) (twos 64 (getD words (i * 4 + 1) 0)) (getD words (i * 4 + 2) 0) (getD words (i * 4 + 3) 0)) r =
+        subst (λ (y : ℤ). Lined out out' end (itemText (getD words (i * 4) 0) y (getD words (i * 4 + 2) 0) (getD words (i * 4 + 3) 0)) r) f z in
+        let b : Added out out' (open-piece lines end a) (wordsLine unit (getD words (i * 4) 0) (getD words (i * 4 + 1) 0) (getD words (i * 4 + 2) 0) (getD words (i * 4 + 3) 0) ∷ []) (open-piece (lines + 1) r a) =
+        added-held out (open-piece lines end a) _ _ (subst (Held (length out)) e (t .held)) refl j l w in
+        adding-further h l (subst (λ (y : Piece). Added out out' y (wordsLine unit (getD words (i * 4) 0) (getD words (i * 4 + 1) 0) (getD words (i * 4 + 2) 0) (getD words (i * 4 + 3) 0) ∷ []) (open-piece (lines + 1) r a)) (sym e) b)
+
+    -- there is no room for it
+    pub adding-stop : {lines end : ℕ} {a : ListingPlace} {d : ℤ} {r : Piece} → q ≡ open-piece lines end a → i < count → d ≡ twos 64 (getD words (i * 4 + 1) 0) → length out - end < 72
+        → r ≡ record { lines = lines; end = end; full = true; place = placeIn unit (getD words (i * 4) 0) d } → Added out₀ out p (wordsLines unit count words) r
+    adding-stop {lines} {end} {a} {d} {r} e h f j g =
+        let full : Piece = full-at lines end (twos 64 (getD words (i * 4 + 1) 0)) in
+        let b : Added out out (open-piece lines end a) (wordsLine unit (getD words (i * 4) 0) (getD words (i * 4 + 1) 0) (getD words (i * 4 + 2) 0) (getD words (i * 4 + 3) 0) ∷ []) full =
+        added-none out (open-piece lines end a) _ _ (subst (Held (length out)) e (t .held)) refl j in
+        let v = adding-further h refl (subst (λ (y : Piece). Added out out y (wordsLine unit (getD words (i * 4) 0) (getD words (i * 4 + 1) 0) (getD words (i * 4 + 2) 0) (getD words (i * 4 + 3) 0) ∷ []) full) (sym e) b) in
+        subst (Added out₀ out p (wordsLines unit count words)) (sym (g ∙ ap (full-at lines end) f))
+        (record { held = v .held; is = sym (v .is ∙ adds-full (length out₀) (partOf full out) (wordsLines unit (count - (i + 1)) (drop ((i + 1) * 4) words)) refl) })
+      where
+        full-at : ℕ → ℕ → ℤ → Piece
+        full-at lines end d = record { lines = lines; end = end; full = true; place = placeIn unit (getD words (i * 4) 0) d }
 
     pub adding-full : q .full ≡ true → Added out₀ out p (wordsLines unit count words) q
     adding-full e = record { held = t .held; is = sym (t .is ∙ adds-full (length out₀) (partOf q out) (wordsLines unit (count - i) (drop (i * 4) words)) e) }

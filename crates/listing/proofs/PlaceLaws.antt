@@ -27,7 +27,7 @@ use Rattle.entries.proofs.SeekLaws.{stands}
 use Rattle.listing.specs.Listing.{Placed, placeIn, placeOf, put, orStop, itemPlaced, readLines, itemLines, Shelf, entriesIn, beginning, stateAt, partLines, unitEntries, unitAll, unitLines, innerLines, listingFrom}
 use Rattle.listing.specs.Piece.{firstPlace}
 use Rattle.listing.specs.Text.{refusedLine}
-use Rattle.listing.specs.declared.piece.ListingPlace.{ListingPlace}
+use Rattle.listing.specs.declared.place.ListingPlace.{ListingPlace}
 use Rattle.listing.proofs.ListLaws.{starts}
 use Rattle.listing.proofs.PartLaws.{state-there, state-in, state-kept}
 use Rattle.listing.proofs.UnitLaws.{unit-in, size-some, answerAt, behind as behindUnit, unitsBy, further-unit, units-step, inner-unit, inner-none, inner-refused}

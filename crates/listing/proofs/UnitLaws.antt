@@ -33,7 +33,7 @@ use Rattle.listing.specs.Listing.{Placed, placeOf, put, orStop, headLine
 use Rattle.listing.specs.Text.{endLine, refusedLine}
 use Rattle.listing.specs.Written.{partOf, adds, Held, Added, Written}
 use Rattle.listing.specs.declared.list.Wrote.{Wrote}
-use Rattle.listing.specs.declared.piece.ListingPlace.{ListingPlace}
+use Rattle.listing.specs.declared.place.ListingPlace.{ListingPlace}
 use Rattle.listing.specs.declared.piece.Piece.{Piece}
 use Rattle.listing.proofs.PieceLaws.{added-in, written-in}
 

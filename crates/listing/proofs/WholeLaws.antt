@@ -15,7 +15,7 @@ use Rattle.listing.specs.Piece.{texts, room, fitting, firstPlace}
 use Rattle.listing.specs.Text.{text}
 use Rattle.listing.specs.Written.{Part, partOf, adds, Held, Added}
 use Rattle.listing.specs.declared.list.Listed.{Listed}
-use Rattle.listing.specs.declared.piece.ListingPlace.{ListingPlace}
+use Rattle.listing.specs.declared.place.ListingPlace.{ListingPlace}
 use Rattle.listing.specs.declared.piece.Piece.{Piece}
 use Rattle.listing.proofs.PieceLaws.{filled, adds-are, fitting-leads, fitting-some, texts-many}
 

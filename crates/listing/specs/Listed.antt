@@ -7,7 +7,7 @@ use lib.ListN.{length, drop, replicate}
 use Rattle.listing.specs.Listing.{Placed, listingFrom}
 use Rattle.listing.specs.Piece.{texts, fitting, firstPlace}
 use Rattle.listing.specs.declared.list.Listed.{Listed}
-use Rattle.listing.specs.declared.piece.ListingPlace.{ListingPlace}
+use Rattle.listing.specs.declared.place.ListingPlace.{ListingPlace}
 
 -- the text of a piece of the listing from a place on, zeros behind it, and where the lines behind it begin; the lent rows are zero
 pub record ListedAs (abbrevs info rows₀ specs₀ : List ℕ) (p : ListingPlace) (out₀ rows specs out : List ℕ) (r : Listed) : Type 0 where

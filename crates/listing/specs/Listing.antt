@@ -19,7 +19,7 @@ use Rattle.entries.specs.Flat.{Item, Reading, readingFrom}
 use Rattle.entries.specs.Raw.{keepsRaw, movedTo, startOf, unitSource}
 use Rattle.entries.specs.declared.raw.EntriesRaw.{EntriesRaw}
 use Rattle.listing.specs.Text.{Line, unitLine, entryLine, nullLine, refusedLine, endLine}
-use Rattle.listing.specs.declared.piece.ListingPlace.{ListingPlace}
+use Rattle.listing.specs.declared.place.ListingPlace.{ListingPlace}
 
 -- a line, and where it stands: its unit's offset, and the offset in the unit and the depth of the item that it is for, both 0 at the unit's own line
 pub record Placed : Type 0 where

@@ -6,7 +6,7 @@ use lib.Dec.{leb}
 use lib.ListN.{length}
 use Rattle.listing.specs.Listing.{Placed, placeOf}
 use Rattle.listing.specs.Text.{text}
-use Rattle.listing.specs.declared.piece.ListingPlace.{ListingPlace}
+use Rattle.listing.specs.declared.place.ListingPlace.{ListingPlace}
 
 -- the bytes of some lines
 abbrev pub texts : List Placed → List ℕ

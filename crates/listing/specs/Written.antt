@@ -4,6 +4,7 @@ use mathlib.Core.List.{List, [], _∷_, _++_}
 use mathlib.Core.Path.{_≡_}
 use Prim.Native.Nat.{ℕ, zero, suc, _+_, _*_, _≤_}
 use lib.Dec.{eqb, leb}
+use lib.IntN.{ℤ}
 use lib.ListN.{length, take, drop, getD}
 use Rattle.reader.specs.Sizes.{maxSection}
 use Rattle.reader.specs.Twos.{twos}
@@ -13,7 +14,7 @@ use Rattle.listing.specs.Listing.{Placed, put, placeIn}
 use Rattle.listing.specs.Piece.{room}
 use Rattle.listing.specs.Text.{Line, unitLine, entryLine, nullLine, refusedLine, endLine, text}
 use Rattle.listing.specs.declared.list.Wrote.{Wrote}
-use Rattle.listing.specs.declared.piece.ListingPlace.{ListingPlace}
+use Rattle.listing.specs.declared.place.ListingPlace.{ListingPlace}
 use Rattle.listing.specs.declared.piece.Piece.{Piece}
 use Rattle.listing.specs.declared.text.Line as code
 use Rattle.listing.specs.declared.text.Line.the-variants as line
@@ -83,11 +84,13 @@ refusal p n rest = put p (refusedLine n) ∷ []
 
 -- ---- items as words
 
+-- the line of an item; a null has no tag
+abbrev pub itemText : (offset : ℕ) (depth : ℤ) (tag count : ℕ) → Line
+itemText offset depth tag count = cond (eqb tag 0) (nullLine offset depth) (entryLine offset depth tag count)
+
 -- the line of an item's four words
 abbrev pub wordsLine : ℕ → (offset depth tag count : ℕ) → Placed
-wordsLine unit offset depth tag count =
-    put (placeIn unit offset (twos 64 depth))
-    (cond (eqb tag 0) (nullLine offset (twos 64 depth)) (entryLine offset (twos 64 depth) tag count))
+wordsLine unit offset depth tag count = put (placeIn unit offset (twos 64 depth)) (itemText offset (twos 64 depth) tag count)
 
 -- the lines of n items
 abbrev pub wordsLines : ℕ → ℕ → List ℕ → List Placed

@@ -11,7 +11,7 @@ ghost use Rattle.entries.specs.Views.{viewOpened};
 ghost use Rattle.listing.specs.Listed.{ListedAs};
 ghost use Rattle.listing.specs.Listing.{placeIn, itemLines, partLines, stateAt, unitEntries, unitAll, unitLines, innerLines, listingFrom};
 ghost use Rattle.listing.specs.Written.{Held, Added, Written, refusal, Fit};
-use super::piece::ListingPlace;
+use super::place::ListingPlace;
 use super::piece::Piece;
 use super::text::Line;
 use abbrev::rows::wipe;
@@ -57,7 +57,7 @@ fn place_at(unit: usize, raw: EntriesRaw) -> ListingPlace
     }
 }
 
-// A line for each item that is left, of up to 128 passed in a call.
+// A line for each item that is left, of up to 256 passed in a call.
 fn list_items(
     raw: EntriesRaw,
     unit: usize,
@@ -71,7 +71,7 @@ fn list_items(
     requires { ⌜ Held (length (now out)) piece ⌝ }
     ensures { λ r. ⌜ Written (now (out .entry)) (now (out .exit)) piece (itemLines (entryLimit .most) unit raw (now (bytes .entry)) (now (rows .entry)) (now (specs .entry))) r ⌝ }
 {
-    let mut words = [0u64; 512];
+    let mut words = [0u64; 1024];
     let mut here = raw;
     let mut held = piece;
     while here.position < bytes.len() {

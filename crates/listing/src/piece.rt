@@ -1,11 +1,14 @@
 // A piece of a listing, line by line, in a lent buffer.
 
+ghost use mathlib.Core.Bool.{true};
 ghost use mathlib.Core.List.{[], _∷_};
+ghost use mathlib.Core.Path.{_≡_};
 ghost use Prim.Native.Nat.{_+_, _≤_};
 ghost use lib.ListN.{length};
-ghost use Rattle.listing.specs.Listing.{put};
+ghost use Rattle.listing.specs.Listing.{put, placeIn};
 ghost use Rattle.listing.specs.Piece.{room};
-ghost use Rattle.listing.specs.Written.{viewLine, wordsLine, wordsLines, Held, Lined, Added, Items};
+ghost use Rattle.listing.specs.Written.{viewLine, itemText, wordsLines, Held, Lined, Added, Items};
+use super::place::ListingPlace;
 use super::text::Line;
 use super::text::put_end;
 use super::text::put_entry;
@@ -13,14 +16,6 @@ use super::text::put_null;
 use super::text::put_refused;
 use super::text::put_unit;
 use reader::twos::from_word;
-
-// Where a line stands: its unit's offset, and the offset in the unit and the depth of the item that it is
-// for, both 0 at the unit's own line.
-pub struct ListingPlace {
-    pub unit: usize,
-    pub offset: usize,
-    pub depth: i64,
-}
 
 pub struct Piece {
     // lines in it
@@ -43,6 +38,42 @@ fn put_line(out: &mut [u8], at: usize, line: Line) -> usize
         Line::Null(offset, depth) => put_null(out, at, offset, depth),
         Line::Refused(number) => put_refused(out, at, number),
         Line::End => put_end(out, at),
+    }
+}
+
+// The line of an item.
+fn put_item(
+    out: &mut [u8],
+    at: usize,
+    offset: usize,
+    depth: i64,
+    tag: u64,
+    count: u64,
+) -> usize
+    requires { ⌜ at + room ≤ length (now out) ⌝ }
+    requires { ⌜ tag ≤ 65535 ⌝ }
+    ensures { λ r. ⌜ Lined (now (out .entry)) (now (out .exit)) at (itemText offset depth tag count) r ⌝ }
+{
+    if tag == 0 {
+        return put_null(out, at, offset, depth);
+    }
+    put_entry(out, at, offset, depth, tag as u16, count as usize)
+}
+
+// A piece that is full before the line of an item.
+fn no_room(lines: usize, end: usize, unit: usize, offset: usize, depth: i64) -> Piece
+    ensures { λ r. ⌜ r ≡ record { lines = lines; end = end; full = true; place = placeIn unit offset depth } ⌝ }
+{
+    let place = ListingPlace {
+        unit,
+        offset,
+        depth,
+    };
+    Piece {
+        lines,
+        end,
+        full: true,
+        place,
     }
 }
 
@@ -73,60 +104,41 @@ impl Piece {
         }
     }
 
-    // The line of an item: of its offset, depth, tag and count.
-    fn add_item(
+    // The lines of the first `count` items of a unit, four words each.
+    pub(crate) fn add_items(
         self,
         out: &mut [u8],
         unit: usize,
-        offset: u64,
-        depth: u64,
-        tag: u64,
-        count: u64,
+        words: &[u64],
+        count: usize,
     ) -> Piece
-        requires { ⌜ Held (length (now out)) self ⌝ }
-        requires { ⌜ tag ≤ 65535 ⌝ }
-        ensures { λ r. ⌜ Added (now (out .entry)) (now (out .exit)) self (wordsLine unit offset depth tag count ∷ []) r ⌝ }
-    {
-        let at = offset as usize;
-        let level = from_word(depth);
-        let place = ListingPlace {
-            unit,
-            offset: at,
-            depth: level,
-        };
-        if tag == 0 {
-            return self.add(out, Line::Null(at, level), place);
-        }
-        self.add(
-            out,
-            Line::Entry(at, level, tag as u16, count as usize),
-            place,
-        )
-    }
-
-    // The lines of the first `count` items of a unit, four words each.
-    pub(crate) fn add_items(self, out: &mut [u8], unit: usize, words: &[u64], count: usize) -> Piece
         requires { ⌜ Held (length (now out)) self ⌝ }
         requires { ⌜ Items count (now words) ⌝ }
         ensures { λ r. ⌜ Added (now (out .entry)) (now (out .exit)) self (wordsLines unit count (now (words .entry))) r ⌝ }
     {
-        let mut held = self;
+        if self.full {
+            return self;
+        }
+        let first = self.place;
+        let mut lines = self.lines;
+        let mut end = self.end;
         let mut i: usize = 0;
         while i < count {
-            if held.full {
-                return held;
-            }
             let at = i * 4;
-            held = held.add_item(
-                out,
-                unit,
-                words[at],
-                words[at + 1],
-                words[at + 2],
-                words[at + 3],
-            );
+            let offset = words[at] as usize;
+            let depth = from_word(words[at + 1]);
+            if out.len() - end < 72 {
+                return no_room(lines, end, unit, offset, depth);
+            }
+            end = put_item(out, end, offset, depth, words[at + 2], words[at + 3]);
+            lines += 1;
             i += 1;
         }
-        held
+        Piece {
+            lines,
+            end,
+            full: false,
+            place: first,
+        }
     }
 }

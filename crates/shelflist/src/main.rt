@@ -8,7 +8,7 @@ use libc::STDOUT_FILENO;
 use listing::input::Input;
 use listing::input::sections;
 use listing::list::list;
-use listing::piece::ListingPlace;
+use listing::place::ListingPlace;
 use unit::range::part;
 
 // Every line takes a byte of the second section, but for the last.

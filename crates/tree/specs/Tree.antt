@@ -20,7 +20,7 @@ pub record Tree : Type 0 where
 abbrev pub unrooted : Cursor → Tree
 unrooted c = record { rooted = false; cursor = c }
 
--- what an opening says, and the tree; after a refusal one that every call refuses with 1
+-- what an opening says, and the tree; after a refusal one that every call that reads refuses with 1
 pub record OpenedTree : Type 0 where
   pub answer : Answer (Unit {0})
   pub tree : Tree

@@ -32,7 +32,7 @@ pub struct EntriesTree {
     pub cursor: EntriesCursor,
 }
 
-// After a refusal the tree is one that every call refuses.
+// After a refusal the tree is one that every call that reads refuses.
 pub struct OpenedTree {
     pub answer: Outcome,
     pub tree: EntriesTree,

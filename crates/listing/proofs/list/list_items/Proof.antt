@@ -12,13 +12,13 @@ use Rattle.listing.proofs.list.list_items.Statement.{statement}
 use Rattle.listing.proofs.list.list_items.Tie as tie
 
 abbrev Inv-loop : tie.InvT-loop
-Inv-loop unit bytes rows specs out₀ words₀ here₀ held₀ out words here held = Going 64 unit bytes rows specs out₀ held₀ here₀ out here held × (length words ≡ 512)
+Inv-loop unit bytes rows specs out₀ words₀ here₀ held₀ out words here held = Going 64 unit bytes rows specs out₀ held₀ here₀ out here held × (length words ≡ 1024)
 
 abbrev μ-loop : tie.MeasureT-loop
 μ-loop unit bytes rows specs out₀ words₀ here₀ held₀ out words here held = length bytes - here .position
 
 loop-holds : tie.Need-loop-holds Inv-loop μ-loop
-loop-holds c = let a = c .before .before .before .before .args in (going-begun 64 (a .unit) (a .bytes .now) (a .rows .now) (a .specs .now) (a .out .now) (a .piece) (a .raw) (c .before .before .before .before .pre .0) (c .before .before .before .before .pre .1), length-replicate {A = ℕ} 512 0)
+loop-holds c = let a = c .before .before .before .before .args in (going-begun 64 (a .unit) (a .bytes .now) (a .rows .now) (a .specs .now) (a .out .now) (a .piece) (a .raw) (c .before .before .before .before .pre .0) (c .before .before .before .before .pre .1), length-replicate {A = ℕ} 1024 0)
 
 same-length : tie.Need-same-length Inv-loop μ-loop
 same-length c = c .before .before .before .loop .inv .0 .same
