@@ -42,14 +42,7 @@ fn put_line(out: &mut [u8], at: usize, line: Line) -> usize
 }
 
 // The line of an item.
-fn put_item(
-    out: &mut [u8],
-    at: usize,
-    offset: usize,
-    depth: i64,
-    tag: u64,
-    count: u64,
-) -> usize
+fn put_item(out: &mut [u8], at: usize, offset: usize, depth: i64, tag: u64, count: u64) -> usize
     requires { ⌜ at + room ≤ length (now out) ⌝ }
     requires { ⌜ tag ≤ 65535 ⌝ }
     ensures { λ r. ⌜ Lined (now (out .entry)) (now (out .exit)) at (itemText offset depth tag count) r ⌝ }
@@ -105,13 +98,7 @@ impl Piece {
     }
 
     // The lines of the first `count` items of a unit, four words each.
-    pub(crate) fn add_items(
-        self,
-        out: &mut [u8],
-        unit: usize,
-        words: &[u64],
-        count: usize,
-    ) -> Piece
+    pub(crate) fn add_items(self, out: &mut [u8], unit: usize, words: &[u64], count: usize) -> Piece
         requires { ⌜ Held (length (now out)) self ⌝ }
         requires { ⌜ Items count (now words) ⌝ }
         ensures { λ r. ⌜ Added (now (out .entry)) (now (out .exit)) self (wordsLines unit count (now (words .entry))) r ⌝ }

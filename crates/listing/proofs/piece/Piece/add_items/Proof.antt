@@ -57,9 +57,9 @@ same-length c = c .before .before .before .before .before .before .loop .inv .sa
 returns-2 : tie.Need-returns-2 Inv-loop μ-loop
 returns-2 c =
     let a = c .before .before .before .before .before .before .before .before .before .before .before .args in
-        let e : toZ w64 (ofZ w64 (c .before .before .from-word .result)) ≡ c .before .before .from-word .result = toZ-ofZ {w = w64} {z = c .before .before .from-word .result} (record { sfits = c .before .before .from-word .ok }) in
-        subst (λ (y : Piece). Added (a .out .now) (c .before .before .before .before .before .before .loop .out) y (wordsLines (a .unit) (a .count) (a .words .now)) (c .no-room .result)) (sym (not-full (a .self) (c .before .before .before .before .before .before .before .before .if1 .left)))
-        (adding-stop (a .unit) (a .count) (a .words .now) (c .before .before .before .before .before .before .loop .inv) refl (c .before .before .before .before .before .loop-test .taken) (e ∙ c .before .before .from-word .ensures) (c .before .if2 .taken) (c .no-room .ensures))
+    let e : toZ w64 (ofZ w64 (c .before .before .from-word .result)) ≡ c .before .before .from-word .result = toZ-ofZ {w = w64} {z = c .before .before .from-word .result} (record { sfits = c .before .before .from-word .ok }) in
+    subst (λ (y : Piece). Added (a .out .now) (c .before .before .before .before .before .before .loop .out) y (wordsLines (a .unit) (a .count) (a .words .now)) (c .no-room .result)) (sym (not-full (a .self) (c .before .before .before .before .before .before .before .before .if1 .left)))
+    (adding-stop (a .unit) (a .count) (a .words .now) (c .before .before .before .before .before .before .loop .inv) refl (c .before .before .before .before .before .loop-test .taken) (e ∙ c .before .before .from-word .ensures) (c .before .if2 .taken) (c .no-room .ensures))
 
 add-put-item : tie.Need-add-put-item Inv-loop μ-loop
 add-put-item c = record { fits = omega (arith, c .before .before .before .before .before .before .before .before .before .before .before .pre .1 .there, c .before .before .before .before .before .loop-test .taken) }
@@ -94,8 +94,8 @@ loop-less c = search needs
 loop-again : tie.Need-loop-again Inv-loop μ-loop
 loop-again c =
     let a = c .before .before .before .before .before .before .before .before .before .before .before .before .before .before .before .before .args in
-        let e : toZ w64 (ofZ w64 (c .before .before .before .before .before .before .before .from-word .result)) ≡ c .before .before .before .before .before .before .before .from-word .result = toZ-ofZ {w = w64} {z = c .before .before .before .before .before .before .before .from-word .result} (record { sfits = c .before .before .before .before .before .before .before .from-word .ok }) in
-        adding-line (a .unit) (a .count) (a .words .now) (c .before .before .before .before .before .before .before .before .before .before .before .loop .inv) refl (c .before .before .before .before .before .before .before .before .before .before .loop-test .taken) (e ∙ c .before .before .before .before .before .before .before .from-word .ensures) (c .before .before .before .before .before .before .if2 .left) (c .before .before .put-item .kept .0) (c .before .before .put-item .ensures)
+    let e : toZ w64 (ofZ w64 (c .before .before .before .before .before .before .before .from-word .result)) ≡ c .before .before .before .before .before .before .before .from-word .result = toZ-ofZ {w = w64} {z = c .before .before .before .before .before .before .before .from-word .result} (record { sfits = c .before .before .before .before .before .before .before .from-word .ok }) in
+    adding-line (a .unit) (a .count) (a .words .now) (c .before .before .before .before .before .before .before .before .before .before .before .loop .inv) refl (c .before .before .before .before .before .before .before .before .before .before .loop-test .taken) (e ∙ c .before .before .before .before .before .before .before .from-word .ensures) (c .before .before .before .before .before .before .if2 .left) (c .before .before .put-item .kept .0) (c .before .before .put-item .ensures)
 
 same-length-2 : tie.Need-same-length-2 Inv-loop μ-loop
 same-length-2 c = c .before .loop .inv .same
@@ -103,8 +103,8 @@ same-length-2 c = c .before .loop .inv .same
 returns-3 : tie.Need-returns-3 Inv-loop μ-loop
 returns-3 c =
     let a = c .before .before .before .before .before .before .args in
-        subst (λ (y : Piece). Added (a .out .now) (c .before .loop .out) y (wordsLines (a .unit) (a .count) (a .words .now)) (open-piece (c .before .loop .lines) (c .before .loop .end) (a .self .place))) (sym (not-full (a .self) (c .before .before .before .if1 .left)))
-        (adding-ended (a .unit) (a .count) (a .words .now) (c .before .loop .inv) (c .loop-test .left))
+    subst (λ (y : Piece). Added (a .out .now) (c .before .loop .out) y (wordsLines (a .unit) (a .count) (a .words .now)) (open-piece (c .before .loop .lines) (c .before .loop .end) (a .self .place))) (sym (not-full (a .self) (c .before .before .before .if1 .left)))
+    (adding-ended (a .unit) (a .count) (a .words .now) (c .before .loop .inv) (c .loop-test .left))
 
 pub add-items-spec : {M : Type 1} → statement M
 add-items-spec =
