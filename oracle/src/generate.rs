@@ -1259,7 +1259,10 @@ pub fn units(rng: &mut Rng, sink: &mut Sink, sample: bool) -> bool {
         let mut case = Case::new(LIST, &section, &[0, 0, 0, rng.pick(&[0, 71, 72, 100, 400, 4000])]);
         case.second = Arc::new(table.section.clone());
         case.lent = ((shapes.len() + rng.below(2)) * 5, (table.size + rng.below(2)) * 3);
-        case.n[0] = if rng.flip() { 0 } else { rng.below(most) as u64 };
+        if rng.flip() {
+            let places = crate::gimli_side::places(&case);
+            case.n[..3].copy_from_slice(&rng.pick(&places));
+        }
         return sink(case, None);
     }
     true
@@ -1331,14 +1334,15 @@ fn listings(rng: &mut Rng, sink: &mut Sink) -> bool {
         damage(rng, which);
     }
     let info = Arc::new(info);
+    let less = rng.percent(3) as usize;
+    let lent = ((need.0 - less.min(need.0)) * 5 + rng.below(5), (need.1 + rng.below(3)) * 3);
     let mut place = [0; 3];
-    // in pieces
+    // in pieces, with the same words lent
     let room = rng.pick(&[72, 100, 300, 1000, 8000]);
     for _ in 0..8 {
         let mut case = Case::new(LIST, &info, &[place[0], place[1], place[2], room]);
         case.second = Arc::new(abbrevs.clone());
-        let less = rng.percent(3) as usize;
-        case.lent = ((need.0 - less.min(need.0)) * 5 + rng.below(5), (need.1 + rng.below(3)) * 3);
+        case.lent = lent;
         let answer = crate::compare::expected(&case);
         let more = answer.words[2];
         place.copy_from_slice(&answer.words[3..6]);
