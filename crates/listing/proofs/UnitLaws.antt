@@ -13,6 +13,7 @@ use Rattle.reader.specs.Answer.{Answer, got, refused, andThen, ifSome, Read, gi
 use Rattle.reader.specs.Leb128.{ulebAt}
 use Rattle.reader.specs.Sizes.{maxSection}
 use Rattle.reader.specs.declared.endianity.RunTimeEndian.the-variants.{Little}
+use Rattle.reader.proofs.Counts.{without-count}
 use Rattle.attribute.proofs.FormLaws.{both}
 use Rattle.abbrev.specs.Lookup.{Found, lookup}
 use Rattle.abbrev.specs.Rows.{Row, rowsFrom, Laid, tableRows, tableSpecs}
@@ -147,25 +148,13 @@ module _ (x : Shelf) where
   pub further-unit : (at : ℕ) (h : UnitHeader) → answerAt at ≡ got (some h) → at < behind at
   further-unit at h e = let z = unit-in (x .info) at e in omega (arith, z .next-is, z .header, size-some h)
 
-  units-same : (n m at : ℕ) → at ≤ length (x .info) → length (x .info) < n + at → length (x .info) < m + at → unitsWithin x n at ≡ unitsWithin x m at
-  unfolding unitsWithin
-  units-same zero m at l h k = absurd (omega arith)
-  units-same (suc n) zero at l h k = absurd (omega arith)
-  units-same (suc n) (suc m) at l h k =
-      same-by (unitsWithin x n) (unitsWithin x m) at
-      (λ u e.
-      let z = further-unit at u e in
-      units-same n m (behind at) (unit-in (x .info) at e .there) (omega arith) (omega arith))
-
   -- the definition without its count
   pub units-step : (at : ℕ) → unitLines x at ≡ orStop (placeOf at) (answerAt at) (unitsBy (unitLines x) at)
   unfolding unitLines unitsWithin
   units-step at =
-      same-by (unitsWithin x (length (x .info) - at)) (λ p. unitsWithin x (suc (length (x .info) - p)) p) at
-      (λ u e.
-      let z = further-unit at u e in
-      let w = unit-in (x .info) at e in
-      units-same (length (x .info) - at) (suc (length (x .info) - behind at)) (behind at) (w .there) (omega (arith, w .there)) (omega (arith, w .there)))
+      without-count (λ (a : ℕ). suc (length (x .info) - a)) (λ f a. orStop (placeOf a) (answerAt a) (unitsBy f a)) (unitsWithin x) (λ n a. refl)
+      (λ f g a h. same-by f g a (λ u e. h (behind a) (omega (arith, further-unit a u e, unit-in (x .info) a e .there))))
+      (λ f a e. absurd (omega (arith, e))) at
 
 -- as many lent words, the same lines
 pub written-same : (x : Shelf) (lines : Shelf → List Placed → List Placed) {i k : ℕ} {p : Piece} {out out' : List ℕ} {r : Wrote} → i ≡ x .rows → k ≡ x .specs
