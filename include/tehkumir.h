@@ -118,8 +118,8 @@ uint64_t tehkumir_tree(const uint8_t *bytes, size_t len, size_t start, uint16_t 
 /* The lines of the listing of two little-endian sections from a place on, zeros for the whole, as many as `text` holds, a
  * line being begun where there are 72 bytes for it: how many bytes and lines, 1 where more follow, and the place of the
  * first line that follows, to go on from: the offset of its unit, and the offset in the unit and the depth of the item that
- * it is for, both 0 at the unit's own line. Zeros follow the text; the rows are zero afterwards. A place that no line has
- * and no state of a unit can have is refused in the text, with 1. */
+ * it is for, both 0 at the unit's own line. Zeros follow the text; the rows are zero afterwards. A place that lies in no
+ * unit, or is no state of the unit's entries, is refused with 1, in the text. */
 uint64_t tehkumir_list(const uint8_t *abbrevs, size_t abbrevs_len, const uint8_t *info, size_t info_len, uint64_t *rows,
                        size_t rows_len, uint64_t *specs, size_t specs_len, size_t unit, size_t offset, int64_t depth, uint8_t *text,
                        size_t text_len, uint64_t *out, size_t out_len);

@@ -4,3 +4,4 @@ pub mod ListLaws
 pub mod ReadLaws
 pub mod ValueLaws
 pub mod PrefixLaws
+pub mod LateLaws

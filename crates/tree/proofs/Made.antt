@@ -6,26 +6,21 @@ use mathlib.Core.List.{List, [], _∷_}
 use mathlib.Core.Logic.{⊎-elim}
 use Prim.Native.Nat.{ℕ, zero, suc, _+_, _-_, _/_, _<_}
 use native.Mathlib.Omega.{arith}
-use lib.Dec.{eqb, ltb, leb}
+use lib.Dec.{eqb, leb}
 use lib.IntN.{ℤ, pos, sucℤ}
-use lib.ListN.{length, take, drop}
-use Rattle.reader.specs.Answer.{Answer, got, refused, andThen, orElse, Read, Holds}
-use Rattle.reader.specs.Fields.{offsetAt, isAddressSize, addressAt, nullTerminatedAt, skipAt}
-use Rattle.reader.specs.Leb128.{through, mostBytes, extent, leb128, ulebAt, slebAt, pastAt}
-use Rattle.reader.specs.Words.{wordAt, halvesAt}
-use Rattle.reader.specs.declared.common.Encoding.{Encoding}
+use lib.ListN.{length}
+use Rattle.reader.specs.Answer.{Answer, got, refused, andThen, Read, Holds}
+use Rattle.reader.specs.Leb128.{ulebAt}
 use Rattle.reader.specs.declared.endianity.RunTimeEndian.{RunTimeEndian}
 use Rattle.reader.proofs.Answers.{cond-by}
 use Rattle.abbrev.specs.Lookup.{Found, lookup, declarationOf, declaredIn}
 use Rattle.abbrev.specs.Rows.{Left}
-use Rattle.abbrev.specs.Table.{Specification, Declaration, Limit, implicitConst, abbreviationsAt}
+use Rattle.abbrev.specs.Table.{Declaration, Limit, abbreviationsAt}
 use Rattle.abbrev.proofs.Lookups.{table-lookup}
 use Rattle.unit.specs.Range.{rangeFrom}
 use Rattle.unit.specs.declared.header.UnitHeader.{UnitHeader}
-use Rattle.attribute.specs.Forms.{indirect}
-use Rattle.attribute.specs.Read.{numbered, wideAt, signedAt, refAddrAt, blockAfter, stringAt, constantOf, rawAt, resolve, finalForm, formAt, attributeAt, attributesAt}
-use Rattle.attribute.specs.declared.form.Layout.{Layout}
-use Rattle.attribute.specs.declared.form.Layout.the-variants as L
+use Rattle.attribute.specs.Read.{attributesAt}
+use Rattle.attribute.proofs.LateLaws.{Late, uleb-late, attributes-late}
 use Rattle.entries.specs.Cursor.{keepsCursor}
 use Rattle.entries.specs.Entry.{Entry}
 use Rattle.entries.specs.Raw.{sourceOf}
@@ -38,106 +33,6 @@ use Rattle.tree.proofs.Real.{itemAt, realReads, stateOf, reply, next-sa
 use Rattle.tree.proofs.Kept.{next-kept, root-kept}
 use Rattle.tree.proofs.Corollary.{Each}
 use Rattle.tree.proofs.Opened.{treeFrom, opened-kept}
-
--- ---- values are not refused with 1
-
-abbrev Late : {A : Type 0} → Answer A → Type 0
-Late (got a) = Unit {0}
-Late (refused n) = 1 < n
-
-late-then : {A B : Type 0} (r : Answer A) (f : A → Answer B) → Late r → ((a : A) → Late (f a)) → Late (andThen r f)
-late-then (got a) f h k = k a
-late-then (refused n) f h k = h
-
-through-late : (m : ℕ) (l : List ℕ) → Late (through m l)
-unfolding through
-through-late m [] = omega arith
-through-late m (b ∷ l) = cond-by Late (ltb b m) _ _ (λ _. tt) (λ _. late-then (through m l) _ (through-late m l) (λ _. tt))
-
-extent-late : (most n : ℕ) (l : List ℕ) → 1 < n → Late (extent most n l)
-unfolding extent
-extent-late most n l h = go (through 128 (take most l)) (ltb (length l) most)
-  where
-    go : (r : Answer ℕ) (b : Bool) → Late (orElse r (refused (cond b 2 n)))
-    go (got k) b = tt
-    go (refused k) true = omega arith
-    go (refused k) false = h
-
-leb-late : {A : Type 0} (w n : ℕ) (worth : List ℕ → A) (fits : A → Bool) (l : List ℕ) → 1 < n → Late (leb128 w n worth fits l)
-unfolding leb128
-leb-late w n worth fits l h =
-    late-then (extent (mostBytes w) n l) _ (extent-late (mostBytes w) n l h) (λ k. cond-by Late (fits (worth (take k l))) _ _ (λ _. tt) (λ _. h))
-
-module _ (s : List ℕ) (at : ℕ) where
-  uleb-late : (w : ℕ) → Late (ulebAt s at w)
-  unfolding ulebAt
-  uleb-late w = late-then (leb128 w 3 _ _ (drop at s)) _ (leb-late w 3 _ _ (drop at s) (omega arith)) (λ _. tt)
-
-  sleb-late : (w : ℕ) → Late (slebAt s at w)
-  unfolding slebAt
-  sleb-late w = late-then (leb128 w 4 _ _ (drop at s)) _ (leb-late w 4 _ _ (drop at s) (omega arith)) (λ _. tt)
-
-  word-late : (n : ℕ) (e : RunTimeEndian) → Late (wordAt s at n e)
-  unfolding wordAt
-  word-late n e = cond-by Late (leb (at + n) (length s)) _ _ (λ _. tt) (λ _. omega arith)
-
-  skip-late : (n : ℕ) → Late (skipAt s at n)
-  unfolding skipAt
-  skip-late n = cond-by Late (leb (at + n) (length s)) _ _ (λ _. tt) (λ _. omega arith)
-
-  address-late : (n : ℕ) (e : RunTimeEndian) → Late (addressAt s at n e)
-  unfolding addressAt
-  address-late n e = cond-by Late (isAddressSize n) _ _ (λ _. word-late n e) (λ _. omega arith)
-
-number-late : (r : Answer (Read ℕ)) → Late r → Late (numbered r)
-unfolding numbered
-number-late r h = late-then r _ h (λ _. tt)
-
-block-late : (s : List ℕ) (start : ℕ) (r : Answer (Read ℕ)) → Late r → Late (blockAfter s start r)
-unfolding blockAfter
-block-late s start r h = late-then r _ h (λ n. late-then (skipAt s (n .next) (n .value)) _ (skip-late s (n .next) (n .value)) (λ _. tt))
-
-module _ (s : List ℕ) (start : ℕ) (c : Encoding) (e : RunTimeEndian) where
-  raw-late : (x : Specification) (l : Layout) (at : ℕ) → Late (rawAt s start c e x l at)
-  unfolding rawAt wideAt halvesAt signedAt offsetAt refAddrAt stringAt nullTerminatedAt pastAt constantOf
-  raw-late x L.U8 at = number-late _ (word-late s at 1 e)
-  raw-late x L.U16 at = number-late _ (word-late s at 2 e)
-  raw-late x L.U24 at = number-late _ (word-late s at 3 e)
-  raw-late x L.U32 at = number-late _ (word-late s at 4 e)
-  raw-late x L.U64 at = number-late _ (word-late s at 8 e)
-  raw-late x L.U128 at = late-then (andThen (wordAt s at 16 e) _) _ (late-then (wordAt s at 16 e) _ (word-late s at 16 e) (λ _. tt)) (λ _. tt)
-  raw-late x L.Offset at = number-late _ (word-late s at _ e)
-  raw-late x L.Address at = number-late _ (address-late s at _ e)
-  raw-late x L.RefAddr at = number-late _ (cond-by Late (eqb (c .version) 2) _ _ (λ _. address-late s at _ e) (λ _. word-late s at _ e))
-  raw-late x L.Uleb128 at = number-late _ (uleb-late s at 64)
-  raw-late x L.Sleb128 at = late-then (slebAt s at 64) _ (sleb-late s at 64) (λ _. tt)
-  raw-late x L.Block1 at = block-late s start _ (word-late s at 1 e)
-  raw-late x L.Block2 at = block-late s start _ (word-late s at 2 e)
-  raw-late x L.Block4 at = block-late s start _ (word-late s at 4 e)
-  raw-late x L.Block at = block-late s start _ (uleb-late s at 64)
-  raw-late x L.NullTerminated at =
-      late-then (andThen (andThen (through 1 (drop at s)) _) _) _ (late-then (andThen (through 1 (drop at s)) _) _ (late-then (through 1 (drop at s)) _ (through-late 1 (drop at s)) (λ _. tt)) (λ _. tt)) (λ _. tt)
-  raw-late x L.Present at = tt
-  raw-late x L.ImplicitConst at = cond-by Late (eqb (x .form) implicitConst) _ _ (λ _. tt) (λ _. omega arith)
-  raw-late x L.Unknown at = omega arith
-
-  resolve-late : (n f at : ℕ) → Late (resolve n s f at)
-  unfolding resolve
-  resolve-late zero f at = cond-by Late (eqb f indirect) _ _ (λ _. omega arith) (λ _. tt)
-  resolve-late (suc n) f at = cond-by Late (eqb f indirect) _ _ (λ _. late-then (ulebAt s at 16) _ (uleb-late s at 16) (λ r. resolve-late n (r .value) (r .next))) (λ _. tt)
-
-  attribute-late : (x : Specification) (at : ℕ) → Late (attributeAt s start c e x at)
-  unfolding attributeAt formAt finalForm
-  attribute-late x at =
-      late-then (andThen (resolve (length s) s (x .form) at) _) _
-      (late-then (resolve (length s) s (x .form) at) _ (resolve-late (length s) (x .form) at) (λ f. late-then (rawAt s start c e x _ (f .next)) _ (raw-late x _ (f .next)) (λ _. tt)))
-      (λ _. tt)
-
-  attributes-late : (xs : List Specification) (at : ℕ) → Late (attributesAt s start c e xs at)
-  unfolding attributesAt
-  attributes-late [] at = tt
-  attributes-late (x ∷ xs) at =
-      late-then (attributeAt s start c e x at) _ (attribute-late x at) (λ a. late-then (attributesAt s start c e xs (a .next)) _ (attributes-late xs (a .next)) (λ _. tt))
 
 -- ---- what 1 is said of
 
@@ -155,12 +50,12 @@ by-then B (got a) f h k = k a
 by-then B (refused n) f h k = h
 
 -- some code finds a row that breaks 01's sizes
-abbrev pub BrokenRow : ℕ → List ℕ → List ℕ → Type 0
-BrokenRow most rows specs = (c : ℕ) × (lookup most rows specs c ≡ refused 1)
+abbrev pub HasBroken : ℕ → List ℕ → List ℕ → Type 0
+HasBroken most rows specs = (c : ℕ) × (lookup most rows specs c ≡ refused 1)
 
 module _ (most : ℕ) (src : Source) (s rows specs : List ℕ) where
   abbrev Bad : Type 0
-  Bad = BrokenRow most rows specs
+  Bad = HasBroken most rows specs
 
   code-by : (p : ℕ) → By Bad (abbreviationAt most s rows specs p)
   unfolding abbreviationAt
@@ -217,11 +112,11 @@ module _ {X : Type 0} (R : Reads X) (B : Type 0) (reads : (a : ℕ) (d : ℤ) �
 
 module _ (most : ℕ) (s rows specs : List ℕ) (t : Tree) (kept : keepsCursor most (length s) (t .cursor) ≡ true) where
   -- a level call on a tree that keeps 01's sizes
-  pub next-1 : (k : ℤ) → nextOf most s rows specs k t .answer ≡ refused 1 → BrokenRow most rows specs
+  pub next-1 : (k : ℤ) → nextOf most s rows specs k t .answer ≡ refused 1 → HasBroken most rows specs
   unfolding itemAt
   next-1 k q =
       let src = sourceOf (t .cursor .input) in
-      let B = BrokenRow most rows specs in
+      let B = HasBroken most rows specs in
       let reads : (a : ℕ) (d : ℤ) → By B (itemAt most src s rows specs a d) =
       λ a d. cond-by (By B) (leb (src .start) a) _ _ (λ _. by-then B (entryAt most src s rows specs (a - src .start) d) _ (entry-by most src s rows specs (a - src .start) d) (λ _. tt)) (λ _ z. absurd (omega (arith, z))) in
       let r = nextOf most s rows specs k t in
@@ -230,10 +125,10 @@ module _ (most : ℕ) (s rows specs : List ℕ) (t : Tree) (kept : keepsCursor m
       subst (λ (a : Answer Bool). By B (reply a (stateOf (length s) (r .tree) .held))) q b refl
 
   -- a root
-  pub root-1 : rootOf most s rows specs t .answer ≡ refused 1 → BrokenRow most rows specs
+  pub root-1 : rootOf most s rows specs t .answer ≡ refused 1 → HasBroken most rows specs
   root-1 q =
       let src = sourceOf (t .cursor .input) in
-      ⊎-elim (λ z. absurd (omega (arith, z))) (λ (z : entryAt most src s rows specs 0 (pos 0) ≡ refused 1). subst (By (BrokenRow most rows specs)) z (entry-by most src s rows specs 0 (pos 0)) refl)
+      ⊎-elim (λ z. absurd (omega (arith, z))) (λ (z : entryAt most src s rows specs 0 (pos 0) ≡ refused 1). subst (By (HasBroken most rows specs)) z (entry-by most src s rows specs 0 (pos 0)) refl)
       (root-left most src s rows specs t (record { source = refl; sizes = kept }) .refusal 1 q)
 
 -- ---- over rows that keep the sizes no call says 1
@@ -247,7 +142,7 @@ said-1 (got true) x q = absurd (let y : _≡_ {A = ℕ} 0 1 = cc in omega arith)
 said-1 (got false) x q = absurd (let y : _≡_ {A = ℕ} 0 1 = cc in omega arith)
 said-1 (refused n) x q = let z : n ≡ 1 = cc in ap refused z
 
-module _ (most : ℕ) (s rows specs : List ℕ) (whole : BrokenRow most rows specs → ⊥) where
+module _ (most : ℕ) (s rows specs : List ℕ) (whole : HasBroken most rows specs → ⊥) where
   replies-not-1 : (ks : List ℤ) (t : Tree) → keepsCursor most (length s) (t .cursor) ≡ true → Each Not1 (treeReplies most s rows specs ks t)
   replies-not-1 [] t h = tt
   replies-not-1 (k ∷ ks) t h =
@@ -268,7 +163,7 @@ pub opened-not-1 : (l : Limit) (abbrevs : List ℕ) (at m k : ℕ) (rows specs :
 opened-not-1 l abbrevs at m k rows specs {d} left read h u offset e s inside answered =
     walk-not-1 (l .most) s rows specs sound (treeFrom (l .most) h u offset e .tree) (opened-kept (l .most) h u offset e s inside answered)
   where
-    sound : BrokenRow (l .most) rows specs → ⊥
+    sound : HasBroken (l .most) rows specs → ⊥
     sound (c, q) =
         let z : andThen (lookup (l .most) rows specs c) (λ o. got (Option·map (declarationOf specs) o)) ≡ got (declaredIn d c) = subst (Holds _) read (table-lookup abbrevs at l m k rows specs left) c in
         let z' : refused 1 ≡ got (declaredIn d c) = rw q at z in
