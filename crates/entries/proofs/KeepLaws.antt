@@ -74,8 +74,9 @@ module _ (s : List ℕ) (w : EntriesRaw) (k : KeptRaw (length s) w) where
   listed-kept most (got v) h = onward-kept (v .next) h
   listed-kept most (refused n) h = k
 
+  -- where a skip ends does not matter here: that is what `raw-read-skip` says
   skipped-kept : (r : Answer ℕ) → Holds (Onward s (w .position)) r → KeptRaw (length s) (skipped w r .raw)
-  skipped-kept (got p) h = onward-kept p h
+  skipped-kept (got p) h = record { inside = omega (arith, h .within, k .inside); short = k .short; near = omega (arith, h .from, k .near) }
   skipped-kept (refused n) h = k
 
 module _ (most : ℕ) (w : EntriesRaw) (s : List ℕ) (h : keepsRaw (length s) w ≡ true) where
