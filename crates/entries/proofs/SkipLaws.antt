@@ -5,7 +5,6 @@ use mathlib.Core.List.{List}
 use mathlib.Core.Option.{Option, none, some}
 use Prim.Native.Nat.{ℕ, _+_}
 use native.Mathlib.Omega.{arith}
-use lib.Dec.{eqb}
 use lib.IntN.{ℤ}
 use lib.ListN.{length}
 use Rattle.reader.specs.Answer.{Answer, got, refused, andThen, Read, gives, Holds}
@@ -13,7 +12,7 @@ use Rattle.abbrev.specs.Lookup.{Found}
 use Rattle.attribute.specs.Attributes.{readAttributes, skipAttributes, Stored, stored}
 use Rattle.attribute.specs.Value.{Attribute}
 use Rattle.attribute.proofs.ListLaws.{read-skip}
-use Rattle.entries.specs.Entry.{Entry, nullEntry}
+use Rattle.entries.specs.Entry.{nullEntry, rowEntry}
 use Rattle.entries.specs.Raw.{keepsRaw, movedTo, judged, moves, sourceOf, Moved, Taken, taken, refusedEntry, Listed, listed, listedIn, skipped, rawAbbreviation, rawEntry, rawAttributes, rawSkip}
 use Rattle.entries.specs.Read.{abbreviationAt, depthAfter, entryAfter, entryAt}
 use Rattle.entries.specs.Steps.{KeptRaw}
@@ -23,11 +22,6 @@ use Rattle.entries.proofs.SeekLaws.{code-near}
 
 got-refused : {A B : Type 0} {a : A} {n : ℕ} → got a ≡ refused n → B
 got-refused e = let z : _≡_ {A = ℕ} 0 1 = cc in absurd (omega arith)
-
--- the entry of a found row, with values in their places
-abbrev pub rowEntry : ℕ → ℤ → Found → List Attribute → Entry
-rowEntry offset depth f attrs =
-    record { tag = f .tag; children = eqb (f .children) 1; offset = offset; depth = depth; count = f .count; attrs = attrs }
 
 -- where read_attributes succeeds, skip_attributes from the same state succeeds and hands back the same state
 pub record SkipsAs (x : Listed) (y : Moved (Unit {0})) : Type 0 where

@@ -27,10 +27,14 @@ abbrev pub nullEntry : ℕ → ℕ → ℤ → Entry
 nullEntry most offset depth =
     record { tag = 0; children = false; offset = offset; depth = depth; count = 0; attrs = pad most [] }
 
--- the entry of a found row, with its values
+-- the entry of a found row at an offset and a depth, with values in their places
+abbrev pub rowEntry : ℕ → ℤ → Found → List Attribute → Entry
+rowEntry offset depth f attrs =
+    record { tag = f .tag; children = eqb (f .children) 1; offset = offset; depth = depth; count = f .count; attrs = attrs }
+
+-- the same with its values, which have so many places
 abbrev pub entryOf : ℕ → ℕ → ℤ → Found → List Attribute → Entry
-entryOf most offset depth f vs =
-    record { tag = f .tag; children = eqb (f .children) 1; offset = offset; depth = depth; count = f .count; attrs = pad most vs }
+entryOf most offset depth f vs = rowEntry offset depth f (pad most vs)
 
 abbrev pub isNull : Entry → Bool
 isNull e = eqb (e .tag) 0

@@ -147,7 +147,8 @@ impl Entry {
     }
 }
 
-pub(crate) fn null_at(offset: usize, depth: i64) -> Entry
+// A null where it stands.
+pub fn null_at(offset: usize, depth: i64) -> Entry
     ensures { λ r. ⌜ viewEntry r ≡ nullEntry (entryLimit .most) offset depth ⌝ }
 {
     let none = Attribute::none();

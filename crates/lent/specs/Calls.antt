@@ -8,14 +8,13 @@ use Rattle.reader.specs.Answer.{Answer, got, refused}
 use Rattle.abbrev.specs.Lookup.{Found}
 use Rattle.attribute.specs.Attributes.{pad}
 use Rattle.attribute.specs.Value.{Attribute}
-use Rattle.entries.specs.Entry.{Entry, nullEntry}
+use Rattle.entries.specs.Entry.{Entry, nullEntry, rowEntry}
 use Rattle.entries.specs.Raw.{Taken, refusedEntry, rawAbbreviation, rawEntry, rawSkip}
 use Rattle.entries.specs.declared.raw.EntriesRaw.{EntriesRaw}
 
 -- the entry of a found row at the offset and depth of the state given, with values in their places
 abbrev pub placed : EntriesRaw → Found → List Attribute → Entry
-placed w f vs =
-    record { tag = f .tag; children = eqb (f .children) 1; offset = w .start + w .position; depth = w .depth; count = f .count; attrs = vs }
+placed w f vs = rowEntry (w .start + w .position) (w .depth) f vs
 
 -- after the values of a found row, which leave the state v; w is the state given
 abbrev pub valuesEnd : ℕ → EntriesRaw → Found → List Attribute → Answer (Unit {0}) → EntriesRaw → Taken

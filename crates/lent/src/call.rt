@@ -22,6 +22,7 @@ use super::held::skip_attributes;
 use abbrev::lookup::Abbreviation;
 use attribute::value::Attribute;
 use entries::entry::Entry;
+use entries::entry::null_at;
 use entries::raw::Coded;
 use entries::raw::EntriesRaw;
 use entries::raw::Outcome;
@@ -120,17 +121,8 @@ fn null(given: EntriesRaw, raw: EntriesRaw) -> RawEntry
     requires { ⌜ given .start + given .position < 2 ^ 63 ⌝ }
     ensures { λ r. ⌜ viewRawEntry r ≡ record { answer = got false; entry = nullEntry (entryLimit .most) (given .start + given .position) (given .depth); raw = raw } ⌝ }
 {
-    let none = Entry::null();
-    let attrs = none.attrs;
     let offset = given.start + given.position;
-    let entry = Entry {
-        tag: 0,
-        has_children: false,
-        offset,
-        depth: given.depth,
-        count: 0,
-        attrs,
-    };
+    let entry = null_at(offset, given.depth);
     RawEntry {
         answer: Said::Null,
         entry,
