@@ -12,8 +12,8 @@ use Rattle.abbrev.specs.Lookup.{Found}
 use Rattle.attribute.specs.Attributes.{readAttributes, skipAttributes, Stored, stored}
 use Rattle.attribute.specs.Value.{Attribute}
 use Rattle.attribute.proofs.ListLaws.{read-skip}
-use Rattle.entries.specs.Entry.{nullEntry, rowEntry}
-use Rattle.entries.specs.Raw.{keepsRaw, movedTo, judged, moves, sourceOf, Moved, Taken, taken, refusedEntry, Listed, listed, listedIn, skipped, rawAbbreviation, rawEntry, rawAttributes, rawSkip}
+use Rattle.entries.specs.Entry.{nullEntry}
+use Rattle.entries.specs.Raw.{keepsRaw, movedTo, entryHere, judged, moves, sourceOf, Moved, Taken, taken, refusedEntry, Listed, listed, listedIn, skipped, rawAbbreviation, rawEntry, rawAttributes, rawSkip}
 use Rattle.entries.specs.Read.{abbreviationAt, depthAfter, entryAfter, entryAt}
 use Rattle.entries.specs.Steps.{KeptRaw}
 use Rattle.entries.specs.declared.raw.EntriesRaw.{EntriesRaw}
@@ -116,7 +116,7 @@ module _ (most : ℕ) (w : EntriesRaw) (s rows specs : List ℕ) where
 
     -- an entry with them
     abbrev took : Listed → Taken
-    took x = record { answer = got true; entry = rowEntry (w .start + w .position) (w .depth) f (x .attrs); raw = x .raw }
+    took x = record { answer = got true; entry = entryHere w f (x .attrs); raw = x .raw }
 
     pub code-values : values .answer ≡ got tt → rawEntry most w s rows specs ≡ took values
     code-values q = go (stand .end) refl
@@ -147,7 +147,7 @@ module _ (most : ℕ) (w : EntriesRaw) (s rows specs : List ℕ) where
     pub code : rawAbbreviation most w s rows specs .answer ≡ got (some found)
     pub listed-done : rawAttributes most (rawAbbreviation most w s rows specs .raw) s specs found .answer ≡ got tt
     pub listed-raw : rawAttributes most (rawAbbreviation most w s rows specs .raw) s specs found .raw ≡ rawEntry most w s rows specs .raw
-    pub entry-is : rawEntry most w s rows specs .entry ≡ rowEntry (w .start + w .position) (w .depth) found (rawAttributes most (rawAbbreviation most w s rows specs .raw) s specs found .attrs)
+    pub entry-is : rawEntry most w s rows specs .entry ≡ entryHere w found (rawAttributes most (rawAbbreviation most w s rows specs .raw) s specs found .attrs)
     pub skipped-done : rawSkip most (rawAbbreviation most w s rows specs .raw) s specs found .answer ≡ got tt
     pub skipped-raw : rawSkip most (rawAbbreviation most w s rows specs .raw) s specs found .raw ≡ rawEntry most w s rows specs .raw
 

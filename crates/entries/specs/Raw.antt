@@ -15,7 +15,7 @@ use Rattle.attribute.specs.Attributes.{readAttribute, readAttributes, skipAttri
 use Rattle.attribute.specs.Value.{Attribute}
 use Rattle.unit.specs.Header.{sizeOfHeader}
 use Rattle.unit.specs.declared.header.UnitHeader.{UnitHeader}
-use Rattle.entries.specs.Entry.{Entry, nullEntry, isNull}
+use Rattle.entries.specs.Entry.{Entry, nullEntry, rowEntry, isNull}
 use Rattle.entries.specs.Read.{Source, abbreviationAt, depthAfter, entryAt, keepsState}
 use Rattle.entries.specs.declared.raw.EntriesRaw.{EntriesRaw}
 
@@ -70,6 +70,10 @@ unfoldable pub rawAbbreviation : ℕ → EntriesRaw → List ℕ → List ℕ �
 rawAbbreviation most w s rows specs =
     moves w (depthAfter (abbreviationAt most s rows specs (w .position)) (w .depth))
     (judged (keepsRaw (length s) w) (abbreviationAt most s rows specs (w .position)))
+
+-- the entry of a found row that stands where a state does, with values in their places
+abbrev pub entryHere : EntriesRaw → Found → List Attribute → Entry
+entryHere w f attrs = rowEntry (w .start + w .position) (w .depth) f attrs
 
 abbrev pub sourceOf : EntriesRaw → Source
 sourceOf w = record { start = w .start; encoding = w .encoding; endian = w .endian }

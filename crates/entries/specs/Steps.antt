@@ -13,8 +13,8 @@ use Rattle.abbrev.specs.Table.{Specification}
 use Rattle.attribute.specs.Attributes.{readAttributes}
 use Rattle.attribute.specs.Value.{Attribute}
 use Rattle.entries.specs.Cursor.{Cursor, Called, goOn, settled, jumped, depthPast, itemNext, advanced, seek}
-use Rattle.entries.specs.Entry.{Entry, rowEntry}
-use Rattle.entries.specs.Raw.{movedTo, Taken}
+use Rattle.entries.specs.Entry.{Entry}
+use Rattle.entries.specs.Raw.{movedTo, entryHere, Taken}
 use Rattle.entries.specs.Read.{raised}
 use Rattle.entries.specs.declared.pass.Item.{Item}
 use Rattle.entries.specs.declared.pass.Item.the-variants as item
@@ -38,7 +38,7 @@ abbrev pub tookEntry : EntriesRaw → Found → List Attribute → ℕ → Taken
 tookEntry w f attrs next =
     record {
       answer = got true;
-      entry = rowEntry (w .start + w .position) (w .depth) f attrs;
+      entry = entryHere w f attrs;
       raw = movedTo w next (raised (f .children) (w .depth));
     }
 

@@ -1,18 +1,22 @@
 -- A refusal leaves the state as it was.
-use mathlib.Core.Path.{_≡_, refl}
-use mathlib.Core.List.{List}
+use mathlib.Core.Bool.{Bool, true, false, cond}
+use mathlib.Core.Option.{Option, none, some}
+use mathlib.Core.Path.{_≡_, refl, ap}
+use mathlib.Core.List.{List, []}
 use Prim.Native.Nat.{ℕ}
 use native.Mathlib.Omega.{arith}
+use lib.Dec.{eqb}
 use lib.IntN.{ℤ}
 use lib.ListN.{length}
 use Rattle.reader.specs.Answer.{Answer, got, refused, Read}
 use Rattle.abbrev.specs.Lookup.{Found}
-use Rattle.attribute.specs.Attributes.{readAttributes, skipAttributes, Stored, stored}
+use Rattle.attribute.specs.Attributes.{readAttributes, skipAttributes, Stored, stored, pad}
 use Rattle.attribute.specs.Value.{Attribute}
 use Rattle.entries.specs.Entry.{Entry}
-use Rattle.entries.specs.Raw.{keepsRaw, judged, sourceOf, moves, taken, listed, skipped, rawAbbreviation, rawEntry, rawAttributes, rawSkip}
+use Rattle.entries.specs.Raw.{keepsRaw, judged, sourceOf, refusedEntry, moves, taken, listed, skipped, rawAbbreviation, rawEntry, rawAttributes, rawSkip}
 use Rattle.entries.specs.Read.{abbreviationAt, depthAfter, entryAt}
 use Rattle.entries.specs.declared.raw.EntriesRaw.{EntriesRaw}
+use Rattle.lent.specs.Calls.{valuesEnd, afterCode, skippedCall, lentCall}
 
 got-refused : {A B : Type 0} {a : A} {n : ℕ} → got a ≡ refused n → B
 got-refused e = let z : _≡_ {A = ℕ} 0 1 = cc in absurd (omega arith)
@@ -58,3 +62,30 @@ module _ (most : ℕ) (w : EntriesRaw) (s rows specs : List ℕ) {n : ℕ} where
   skip-kept f e =
       skipped-kept w
       (judged (keepsRaw (length s) w) (skipAttributes most s (w .start) (w .encoding) (w .endian) specs f (w .position))) e
+
+  -- and one call by its number, also where it makes two
+  pub call-kept : (op : ℕ) → lentCall most s rows specs op w .answer ≡ refused n → lentCall most s rows specs op w ≡ refusedEntry most w n
+  unfolding skippedCall rawEntry
+  call-kept op e = by (eqb op 1) e
+    where
+      same : {k : ℕ} → _≡_ {A = Answer Bool} (refused k) (refused n) → refusedEntry most w k ≡ refusedEntry most w n
+      same {k} q = let z : k ≡ n = cc in ap (refusedEntry most w) z
+
+      values : (f : Found) (a : Answer (Unit {0})) (v : EntriesRaw) → valuesEnd most w f (pad most []) a v .answer ≡ refused n → valuesEnd most w f (pad most []) a v ≡ refusedEntry most w n
+      values f (got u) v q = got-refused q
+      values f (refused k) v q = same q
+
+      code : (a : Answer (Option Found)) (v : EntriesRaw) → afterCode most s specs w a v .answer ≡ refused n → afterCode most s specs w a v ≡ refusedEntry most w n
+      code (got none) v q = got-refused q
+      code (got (some f)) v q = values f (rawSkip most v s specs f .answer) (rawSkip most v s specs f .raw) q
+      code (refused k) v q = same q
+
+      read : (d : ℤ) (r : Answer (Read Entry)) → taken most w d r .answer ≡ refused n → taken most w d r ≡ refusedEntry most w n
+      read d (got i) q = got-refused q
+      read d (refused k) q = same q
+
+      by : (b : Bool) → cond b (skippedCall most s rows specs w) (rawEntry most w s rows specs) .answer ≡ refused n → cond b (skippedCall most s rows specs w) (rawEntry most w s rows specs) ≡ refusedEntry most w n
+      by true q = code (rawAbbreviation most w s rows specs .answer) (rawAbbreviation most w s rows specs .raw) q
+      by false q =
+          read (depthAfter (abbreviationAt most s rows specs (w .position)) (w .depth))
+          (judged (keepsRaw (length s) w) (entryAt most (sourceOf w) s rows specs (w .position) (w .depth))) q

@@ -12,7 +12,7 @@ use Rattle.abbrev.specs.declared.lookup.Abbreviation.{Abbreviation}
 use Rattle.attribute.specs.Attributes.{pad}
 use Rattle.attribute.specs.Views.{viewAttribute}
 use Rattle.entries.specs.Entry.{Entry, nullEntry}
-use Rattle.entries.specs.Raw.{movedTo, Moved, Taken, Listed, refusedEntry, rawAbbreviation, rawEntry, rawAttributes, rawSkip}
+use Rattle.entries.specs.Raw.{movedTo, entryHere, Moved, Taken, Listed, refusedEntry, rawAbbreviation, rawEntry, rawAttributes, rawSkip}
 use Rattle.entries.specs.Views.{viewCoded, viewEntry, viewOutcome, viewSaid, viewRawAttributes, viewRawSkipped}
 use Rattle.entries.specs.declared.raw.Coded.{Coded}
 use Rattle.entries.specs.declared.raw.Coded.the-variants as coded
@@ -24,7 +24,7 @@ use Rattle.entries.specs.declared.raw.RawSkipped.{RawSkipped}
 use Rattle.entries.specs.declared.raw.Said.the-variants as said
 use Rattle.entries.proofs.RawLaws.{same-taken}
 use Rattle.entries.proofs.SkipLaws.{raw-read-skip, code-kept, code-back, code-refuses, code-null, code-values, code-values-refuse, InTwo, entry-read-skip, null-in-one}
-use Rattle.lent.specs.Calls.{placed, skippedCall}
+use Rattle.lent.specs.Calls.{skippedCall}
 use Rattle.lent.specs.Steps.{readValues}
 use Rattle.lent.specs.Views.{viewReadEntry, viewReadAbbreviation, viewReadAttributes, viewSkipped}
 use Rattle.lent.specs.declared.raw.ReadAttributes.{ReadAttributes}
@@ -60,7 +60,7 @@ module _ (most : ℕ) (w : EntriesRaw) (s rows specs : List ℕ) where
   pub record LentInTwo (e : Entry) (v : EntriesRaw) (c : Coded) (u : EntriesRaw) : Type 0 where
     pub found : Abbreviation
     pub code : c ≡ coded.Found found
-    pub listed : (r : ReadAttributes) {x : EntriesRaw} → viewReadAttributes r x ≡ rawAttributes most u s specs (foundOf found) → (r .answer ≡ outcome.Done) × (x ≡ v) × (e ≡ placed w (foundOf found) (map viewAttribute (r .attrs)))
+    pub listed : (r : ReadAttributes) {x : EntriesRaw} → viewReadAttributes r x ≡ rawAttributes most u s specs (foundOf found) → (r .answer ≡ outcome.Done) × (x ≡ v) × (e ≡ entryHere w (foundOf found) (map viewAttribute (r .attrs)))
     pub skipped : (k : Outcome) {x : EntriesRaw} → viewSkipped k x ≡ rawSkip most u s specs (foundOf found) → (k ≡ outcome.Done) × (x ≡ v)
 
   module _ (r : ReadEntry) (c : Coded) {v u : EntriesRaw} (a : viewReadEntry r v ≡ rawEntry most w s rows specs) (b : viewReadAbbreviation c u ≡ rawAbbreviation most w s rows specs) where
@@ -84,7 +84,7 @@ module _ (most : ℕ) (w : EntriesRaw) (s rows specs : List ℕ) where
             code = q;
             listed = λ y e.
                 let m = e ∙ same-values in
-                (is-done (y .answer) (ap (λ (x : Listed). x .answer) m ∙ z .listed-done), ap (λ (x : Listed). x .raw) m ∙ z .listed-raw ∙ left, ap (λ (x : Taken). x .entry) a ∙ z .entry-is ∙ ap (λ (g : Found). placed w g (rawAttributes most (rawAbbreviation most w s rows specs .raw) s specs (z .found) .attrs)) (sym j) ∙ ap (placed w (foundOf d)) (sym (ap (λ (x : Listed). x .attrs) m)));
+                (is-done (y .answer) (ap (λ (x : Listed). x .answer) m ∙ z .listed-done), ap (λ (x : Listed). x .raw) m ∙ z .listed-raw ∙ left, ap (λ (x : Taken). x .entry) a ∙ z .entry-is ∙ ap (λ (g : Found). entryHere w g (rawAttributes most (rawAbbreviation most w s rows specs .raw) s specs (z .found) .attrs)) (sym j) ∙ ap (entryHere w (foundOf d)) (sym (ap (λ (x : Listed). x .attrs) m)));
             skipped = λ k e.
                 let m = e ∙ same-skip in
                 (is-done k (ap (λ (x : Moved (Unit {0})). x .answer) m ∙ z .skipped-done), ap (λ (x : Moved (Unit {0})). x .raw) m ∙ z .skipped-raw ∙ left);

@@ -8,17 +8,13 @@ use Rattle.reader.specs.Answer.{Answer, got, refused}
 use Rattle.abbrev.specs.Lookup.{Found}
 use Rattle.attribute.specs.Attributes.{pad}
 use Rattle.attribute.specs.Value.{Attribute}
-use Rattle.entries.specs.Entry.{Entry, nullEntry, rowEntry}
-use Rattle.entries.specs.Raw.{Taken, refusedEntry, rawAbbreviation, rawEntry, rawSkip}
+use Rattle.entries.specs.Entry.{nullEntry}
+use Rattle.entries.specs.Raw.{entryHere, Taken, refusedEntry, rawAbbreviation, rawEntry, rawSkip}
 use Rattle.entries.specs.declared.raw.EntriesRaw.{EntriesRaw}
-
--- the entry of a found row at the offset and depth of the state given, with values in their places
-abbrev pub placed : EntriesRaw → Found → List Attribute → Entry
-placed w f vs = rowEntry (w .start + w .position) (w .depth) f vs
 
 -- after the values of a found row, which leave the state v; w is the state given
 abbrev pub valuesEnd : ℕ → EntriesRaw → Found → List Attribute → Answer (Unit {0}) → EntriesRaw → Taken
-valuesEnd most w f vs (got u) v = record { answer = got true; entry = placed w f vs; raw = v }
+valuesEnd most w f vs (got u) v = record { answer = got true; entry = entryHere w f vs; raw = v }
 valuesEnd most w f vs (refused n) v = refusedEntry most w n
 
 -- skip_attributes, behind a found row's code; no value is stored

@@ -11,9 +11,9 @@ ghost use Rattle.abbrev.specs.Table.{entryLimit};
 ghost use Rattle.abbrev.specs.Views.{foundOf};
 ghost use Rattle.attribute.specs.Views.{viewAttribute};
 ghost use Rattle.entries.specs.Entry.{nullEntry};
-ghost use Rattle.entries.specs.Raw.{refusedEntry, rawEntry};
+ghost use Rattle.entries.specs.Raw.{entryHere, refusedEntry, rawEntry};
 ghost use Rattle.entries.specs.Views.{viewEntry, viewOutcome, viewRawEntry};
-ghost use Rattle.lent.specs.Calls.{placed, valuesEnd, skipValues, skippedCall, lentCall};
+ghost use Rattle.lent.specs.Calls.{valuesEnd, skipValues, skippedCall, lentCall};
 ghost use Rattle.lent.specs.Steps.{readValues};
 use super::held::read_abbreviation;
 use super::held::read_attributes;
@@ -33,7 +33,7 @@ use reader::error::Error;
 // The entry of a found row, where the state given stands.
 fn entry_of(given: EntriesRaw, found: Abbreviation, attrs: [Attribute; 64]) -> Entry
     requires { ⌜ given .start + given .position < 2 ^ 63 ⌝ }
-    ensures { λ r. ⌜ viewEntry r ≡ placed given (foundOf found) (map viewAttribute attrs) ⌝ }
+    ensures { λ r. ⌜ viewEntry r ≡ entryHere given (foundOf found) (map viewAttribute attrs) ⌝ }
 {
     let offset = given.start + given.position;
     Entry {

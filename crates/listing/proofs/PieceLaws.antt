@@ -10,10 +10,10 @@ use lib.IntN.{ℤ}
 use lib.ListN.{length, take, drop, getD, length-append}
 use lib.Seq.{length-take-le, getD-drop, drop-drop}
 use Rattle.reader.specs.Twos.{twos}
-use Rattle.listing.specs.Listing.{Placed, placeIn, placeOf, put}
+use Rattle.listing.specs.Listing.{Placed, placeIn, placeOf, put, itemText}
 use Rattle.listing.specs.Piece.{texts, room, fitting, firstPlace}
 use Rattle.listing.specs.Text.{Line, entryLine, nullLine, refusedLine, text}
-use Rattle.listing.specs.Written.{Put, Part, partOf, add, adds, Held, Lined, Added, Written, refusal, itemText, wordsLine, wordsLines}
+use Rattle.listing.specs.Written.{Put, Part, partOf, add, adds, Held, Lined, Added, Written, refusal, wordsLine, wordsLines}
 use Rattle.listing.specs.declared.list.Wrote.{Wrote}
 use Rattle.listing.specs.declared.place.ListingPlace.{ListingPlace}
 use Rattle.listing.specs.declared.piece.Piece.{Piece}

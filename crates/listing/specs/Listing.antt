@@ -14,7 +14,7 @@ use Rattle.unit.specs.Header.{sizeOfHeader}
 use Rattle.unit.specs.Range.{unitBytes, entriesBuf}
 use Rattle.unit.specs.Units.{nextUnit}
 use Rattle.unit.specs.declared.header.UnitHeader.{UnitHeader}
-use Rattle.entries.specs.Entry.{Entry, isNull}
+use Rattle.entries.specs.Entry.{Entry}
 use Rattle.entries.specs.Flat.{Item, Reading, readingFrom}
 use Rattle.entries.specs.Raw.{keepsRaw, movedTo, startOf, unitSource}
 use Rattle.entries.specs.declared.raw.EntriesRaw.{EntriesRaw}
@@ -45,9 +45,12 @@ orStop p (refused n) f = put p (refusedLine n) ∷ []
 abbrev pub headLine : UnitHeader → Line
 headLine h = unitLine (h .offset) (h .encoding .version) (8 * wordSize (h .encoding .format)) (h .encoding .«address_size»)
 
--- offset in unit, depth, tag and value count; a null has `null` for the last two
+-- offset in unit, depth, tag and value count; a null, which has no tag, has `null` for the last two
+abbrev pub itemText : (offset : ℕ) (depth : ℤ) (tag count : ℕ) → Line
+itemText offset depth tag count = cond (eqb tag 0) (nullLine offset depth) (entryLine offset depth tag count)
+
 abbrev pub itemLine : Entry → Line
-itemLine e = cond (isNull e) (nullLine (e .offset) (e .depth)) (entryLine (e .offset) (e .depth) (e .tag) (e .count))
+itemLine e = itemText (e .offset) (e .depth) (e .tag) (e .count)
 
 abbrev pub itemPlaced : ℕ → Item → Placed
 itemPlaced unit i = put (placeIn unit (i .value .offset) (i .value .depth)) (itemLine (i .value))

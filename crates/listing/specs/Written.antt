@@ -3,14 +3,14 @@ use mathlib.Core.Bool.{Bool, true, cond}
 use mathlib.Core.List.{List, [], _∷_, _++_}
 use mathlib.Core.Path.{_≡_}
 use Prim.Native.Nat.{ℕ, zero, suc, _+_, _*_, _≤_}
-use lib.Dec.{eqb, leb}
+use lib.Dec.{leb}
 use lib.IntN.{ℤ}
 use lib.ListN.{length, take, drop, getD}
 use Rattle.reader.specs.Sizes.{maxSection}
 use Rattle.reader.specs.Twos.{twos}
 use Rattle.unit.specs.Header.{sizeOfHeader, unitEnd}
 use Rattle.unit.specs.declared.header.UnitHeader.{UnitHeader}
-use Rattle.listing.specs.Listing.{Placed, put, placeIn}
+use Rattle.listing.specs.Listing.{Placed, put, placeIn, itemText}
 use Rattle.listing.specs.Piece.{room}
 use Rattle.listing.specs.Text.{Line, unitLine, entryLine, nullLine, refusedLine, endLine, text}
 use Rattle.listing.specs.declared.list.Wrote.{Wrote}
@@ -83,10 +83,6 @@ abbrev pub refusal : ListingPlace → ℕ → List Placed → List Placed
 refusal p n rest = put p (refusedLine n) ∷ []
 
 -- ---- items as words
-
--- the line of an item; a null has no tag
-abbrev pub itemText : (offset : ℕ) (depth : ℤ) (tag count : ℕ) → Line
-itemText offset depth tag count = cond (eqb tag 0) (nullLine offset depth) (entryLine offset depth tag count)
 
 -- the line of an item's four words
 abbrev pub wordsLine : ℕ → (offset depth tag count : ℕ) → Placed
