@@ -11,21 +11,53 @@
 #include "object.h"
 #include "shelf.h"
 
-/* Lists the sections of units of an object, one after another. */
-static enum status list_sections(const struct options *options, const struct object *object, bool has_heading)
+/* Lists the sections of .debug_info or those of .debug_types, until one is not listed whole. Answers how many have something to list. */
+static size_t list_sections(const struct options *options, const struct object *object, struct build *build, enum status *status)
 {
-    struct build build = {object->name, object->names.info, 0, object->is_big, {NULL, 0}, {NULL, 0}};
-    enum status status = object_bytes(object, object->abbrev, &build.abbrev);
-    for (size_t i = 0; i < object->count && status == LISTED; i++) {
-        status = object_bytes(object, object->info[i], &build.info);
-        if (status != LISTED)
+    size_t listed = 0, end = build->is_types ? object->count : object->infos;
+    build->section = build->is_types ? object->names.types.plain : object->names.info.plain;
+    *status = LISTED;
+    for (size_t i = build->is_types ? object->infos : 0; i < end && *status == LISTED; i++) {
+        *status = object_bytes(object, object->units[i], &build->units);
+        if (*status != LISTED)
             break;
-        build.index = elf_ndxscn(object->info[i]);
-        if (has_heading || object->count > 1)
-            show_heading(options, object->name, object->count > 1 ? build.index : 0);
-        status = list_build(options, &build);
+        build->index = elf_ndxscn(object->units[i]);
+        bool is_listed = has_unit(options, build);
+        if (is_listed || build->heading == OF_FILE) /* a file has its line also where --unit finds nothing in it */
+            show_heading(options, build);
+        *status = is_listed ? list_build(options, build) : LISTED;
+        listed += is_listed;
     }
-    return status;
+    return listed;
+}
+
+static enum heading heading_of(const struct object *object, bool has_heading)
+{
+    if (object->count > object->infos)
+        return OF_NAMED_SECTION;
+    if (object->count > 1)
+        return OF_SECTION;
+    return has_heading ? OF_FILE : NO_HEADING;
+}
+
+/* .debug_info, then .debug_types, whatever became of the first: each has offsets of its own. */
+static enum status list_both(const struct options *options, const struct object *object, bool has_heading)
+{
+    struct build build = {.name = object->name, .heading = heading_of(object, has_heading), .is_big = object->is_big};
+    enum status info = object_bytes(object, object->abbrev, &build.abbrev), types;
+    if (info != LISTED)
+        return info;
+    size_t listed = list_sections(options, object, &build, &info);
+    build.is_types = true;
+    listed += list_sections(options, object, &build, &types);
+    enum status first = info != LISTED ? info : types;
+    if (first == LISTED && listed == 0) {
+        char names[UNITS_TEXT];
+        object_name_units(object, " or ", names);
+        say("%s: no unit starts at offset %llu of %s", object->name, (unsigned long long)options->unit, names);
+        return NOTHING;
+    }
+    return first;
 }
 
 static enum status list_object(const struct options *options, const char *name, int fd, bool has_heading)
@@ -33,7 +65,7 @@ static enum status list_object(const struct options *options, const char *name, 
     struct object object;
     enum status status = object_open(&object, name, fd, options->values);
     if (status == LISTED)
-        status = list_sections(options, &object, has_heading);
+        status = list_both(options, &object, has_heading);
     object_close(&object);
     return status;
 }

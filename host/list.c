@@ -10,7 +10,8 @@ enum {
     CALLS = 512,       /* entries read at a time */
     WORDS = 32 * CALLS /* for their answers; one needs at most 4 + 5 + 5 * 64 */
 };
-enum { STATUS, IS_ENTRY, NEXT, NEXT_DEPTH, CALL_WORDS }; /* before the ENTRY of each call */
+enum { NEXT_UNIT, HAS_UNIT, HEADER, NEXT_WORDS = HEADER + HEADER_WORDS }; /* of a list of units */
+enum { STATUS, IS_ENTRY, NEXT, NEXT_DEPTH, CALL_WORDS };                  /* before the ENTRY of each call */
 
 /* The table that was read last, and the rows lent for it. */
 struct table {
@@ -161,23 +162,38 @@ static enum status list_unit(struct listing *listing, const uint64_t *header, si
     uint64_t number = read_table(listing, header[TABLE]);
     if (number != 0)
         return refuse_table(listing, number, header);
-    return list_entries(listing, header, (struct bytes){listing->build->info.first + first, end - first});
+    return list_entries(listing, header, (struct bytes){listing->build->units.first + first, end - first});
+}
+
+/* The unit from a place on. Answers 0 or the number of a refusal. */
+static uint64_t next_unit(const struct build *build, size_t at, uint64_t words[NEXT_WORDS])
+{
+    const struct bytes *units = &build->units;
+    if (build->is_types)
+        return tehkumir_types_next_unit(units->first, units->count, at, build->is_big, words, NEXT_WORDS);
+    return tehkumir_next_unit(units->first, units->count, at, build->is_big, words, NEXT_WORDS);
+}
+
+bool has_unit(const struct options *options, const struct build *build)
+{
+    uint64_t words[NEXT_WORDS];
+    for (size_t at = 0; options->one_unit; at = (size_t)words[NEXT_UNIT]) {
+        if (next_unit(build, at, words) != 0)
+            return true; /* a refusal before it is listed */
+        if (words[HAS_UNIT] == 0 || words[HEADER + OFFSET] == options->unit)
+            return words[HAS_UNIT] != 0;
+    }
+    return true;
 }
 
 static enum status list_units(struct listing *listing)
 {
     const struct options *options = listing->options;
-    const struct build *build = listing->build;
-    enum { NEXT_UNIT, HAS_UNIT, HEADER };
-    uint64_t words[HEADER + HEADER_WORDS];
+    uint64_t words[NEXT_WORDS];
     for (size_t at = 0;; at = (size_t)words[NEXT_UNIT]) {
-        uint64_t number = tehkumir_next_unit(build->info.first, build->info.count, at, build->is_big, words, HEADER + HEADER_WORDS);
+        uint64_t number = next_unit(listing->build, at, words);
         if (number != 0)
             return refuse_unit(listing, number, at);
-        if (words[HAS_UNIT] == 0 && options->one_unit) {
-            say("%s: no unit starts at offset %llu of %s", build->name, (unsigned long long)options->unit, build->section);
-            return NOTHING;
-        }
         if (words[HAS_UNIT] != 0 && options->one_unit && words[HEADER + OFFSET] != options->unit)
             continue;
         enum status status = words[HAS_UNIT] != 0 ? list_unit(listing, words + HEADER, (size_t)words[NEXT_UNIT]) : LISTED;
@@ -193,7 +209,7 @@ static enum status list_units(struct listing *listing)
 enum status list_build(const struct options *options, const struct build *build)
 {
     struct listing listing = {options, build, {NULL, NULL, 0, 0, 0, false}};
-    progress_start(build->name, build->info.count);
+    progress_start(build->name, build->units.count);
     enum status status = list_units(&listing);
     progress_end();
     free(listing.table.rows);

@@ -29,6 +29,7 @@ static const struct refusal refusals[] = {
     {"OffsetOutOfBounds", "an offset lies outside of what it points into"},
     {"NoEntryAtGivenOffset", "there is no entry at the offset"},
     {"InvalidTreeLevel", "the tree has no such level here"},
+    {"MissingTypeUnit", "no unit of .debug_types has the signature"},
 };
 
 struct refusal refusal_of(uint64_t number)

@@ -2,6 +2,7 @@
 #include "object.h"
 
 #include <errno.h>
+#include <stdio.h>
 #include <stdlib.h>
 #include <string.h>
 #include <sys/mman.h>
@@ -9,9 +10,14 @@
 
 /* The first of these that a file has is listed. */
 static const struct section_names kinds[] = {
-    {".debug_info", ".zdebug_info", ".debug_abbrev", ".zdebug_abbrev", NULL},
-    {".debug_info.dwo", ".zdebug_info.dwo", ".debug_abbrev.dwo", ".zdebug_abbrev.dwo", "a split file (.dwo)"},
-    {".gnu.debuglto_.debug_info", ".gnu.debuglto_.zdebug_info", ".gnu.debuglto_.debug_abbrev", ".gnu.debuglto_.zdebug_abbrev",
+    {{".debug_info", ".zdebug_info"}, {".debug_types", ".zdebug_types"}, {".debug_abbrev", ".zdebug_abbrev"}, NULL},
+    {{".debug_info.dwo", ".zdebug_info.dwo"},
+     {".debug_types.dwo", ".zdebug_types.dwo"},
+     {".debug_abbrev.dwo", ".zdebug_abbrev.dwo"},
+     "a split file (.dwo)"},
+    {{".gnu.debuglto_.debug_info", ".gnu.debuglto_.zdebug_info"},
+     {".gnu.debuglto_.debug_types", ".gnu.debuglto_.zdebug_types"},
+     {".gnu.debuglto_.debug_abbrev", ".gnu.debuglto_.zdebug_abbrev"},
      "an object for link-time optimisation (-flto), with what the compiler knew before it"},
 };
 
@@ -33,32 +39,54 @@ static Elf_Scn *find(Elf *elf, const char *name)
     return NULL;
 }
 
+/* The next section with a name, or with the one that it has where it is compressed. */
+static Elf_Scn *next_named(Elf *elf, Elf_Scn *section, const struct section_name *name)
+{
+    while ((section = elf_nextscn(elf, section)) != NULL) {
+        const char *own = name_of(elf, section);
+        if (strcmp(own, name->plain) == 0 || strcmp(own, name->packed) == 0)
+            return section;
+    }
+    return NULL;
+}
+
 /* Fills in the sections with the names; false without memory. */
 static bool gather(struct object *object)
 {
     size_t all = 0;
     object->count = object->tables = 0;
-    free(object->info);
-    object->info = elf_getshdrnum(object->elf, &all) == 0 ? calloc(all + 1, sizeof *object->info) : NULL;
-    for (Elf_Scn *section = NULL; object->info != NULL && (section = elf_nextscn(object->elf, section)) != NULL;) {
-        const char *name = name_of(object->elf, section);
-        if (strcmp(name, object->names.info) == 0 || strcmp(name, object->names.packed_info) == 0)
-            object->info[object->count++] = section;
-        else if (strcmp(name, object->names.abbrev) == 0 || strcmp(name, object->names.packed_abbrev) == 0) {
-            object->tables++;
-            object->abbrev = section;
-        }
+    free(object->units);
+    object->units = elf_getshdrnum(object->elf, &all) == 0 ? calloc(all + 1, sizeof *object->units) : NULL;
+    if (object->units == NULL)
+        return false;
+    for (Elf_Scn *section = NULL; (section = next_named(object->elf, section, &object->names.info)) != NULL;)
+        object->units[object->count++] = section;
+    object->infos = object->count;
+    for (Elf_Scn *section = NULL; (section = next_named(object->elf, section, &object->names.types)) != NULL;)
+        object->units[object->count++] = section;
+    for (Elf_Scn *section = NULL; (section = next_named(object->elf, section, &object->names.abbrev)) != NULL;) {
+        object->tables++;
+        object->abbrev = section;
     }
-    return object->info != NULL;
+    return true;
+}
+
+static void name_units(const struct section_names *names, bool has_info, bool has_types, const char *between, char text[UNITS_TEXT])
+{
+    snprintf(text, UNITS_TEXT, "%s%s%s", has_info ? names->info.plain : "", has_info && has_types ? between : "",
+             has_types ? names->types.plain : "");
+}
+
+void object_name_units(const struct object *object, const char *between, char text[UNITS_TEXT])
+{
+    name_units(&object->names, object->infos > 0, object->count > object->infos, between, text);
 }
 
 /* What to say of a file that has none of the sections. */
 static enum status nothing(const struct object *object)
 {
     Elf *elf = object->elf;
-    if (find(elf, ".debug_types") != NULL || find(elf, ".debug_types.dwo") != NULL)
-        say("%s: no section .debug_info, only .debug_types, which is not listed", object->name);
-    else if (find(elf, ".stab") != NULL)
+    if (find(elf, ".stab") != NULL)
         say("%s: stabs, an older kind of debugging information, and no DWARF", object->name);
     else if (find(elf, ".gnu_debuglink") != NULL)
         say("%s: no debugging sections; they were moved to a file of their own, which .gnu_debuglink names", object->name);
@@ -69,6 +97,19 @@ static enum status nothing(const struct object *object)
     else
         say("%s: no debugging sections; it was built without them (gcc -g) or stripped", object->name);
     return NOTHING;
+}
+
+/* Says what kind of file it is, and which sections of it are not listed. */
+static void say_kind(const struct object *object)
+{
+    char listed[UNITS_TEXT], beside[UNITS_TEXT];
+    Elf *elf = object->elf;
+    object_name_units(object, " and ", listed);
+    name_units(&kinds[1], find(elf, kinds[1].info.plain) != NULL, find(elf, kinds[1].types.plain) != NULL, " and ", beside);
+    if (object->names.note != NULL)
+        say("%s: %s: listing %s", object->name, object->names.note, listed);
+    else if (beside[0] != '\0')
+        say("%s: listing %s, not %s", object->name, listed, beside);
 }
 
 /* Finds the sections and says what kind of file they make it. */
@@ -84,19 +125,14 @@ static enum status find_sections(struct object *object)
     if (object->count == 0)
         return nothing(object);
     if (object->tables != 1) {
-        say("%s: %s section %s", object->name, object->tables == 0 ? "no" : "more than one", object->names.abbrev);
+        say("%s: %s section %s", object->name, object->tables == 0 ? "no" : "more than one", object->names.abbrev.plain);
         return NOTHING;
     }
-    if (find(object->elf, ".debug_cu_index") != NULL) {
+    if (find(object->elf, ".debug_cu_index") != NULL || find(object->elf, ".debug_tu_index") != NULL) {
         say("%s: a package of split files (.dwp); its units find their tables by an index, which is not read", object->name);
         return NOTHING;
     }
-    if (object->names.note != NULL)
-        say("%s: %s: listing %s", object->name, object->names.note, object->names.info);
-    else if (find(object->elf, kinds[1].info) != NULL)
-        say("%s: %s is listed, %s beside it is not", object->name, object->names.info, kinds[1].info);
-    if (find(object->elf, ".debug_types") != NULL)
-        say("%s: %s is listed, .debug_types beside it is not", object->name, object->names.info);
+    say_kind(object);
     return LISTED;
 }
 
@@ -137,7 +173,7 @@ enum status object_open(struct object *object, const char *name, int fd, bool ex
 
 void object_close(struct object *object)
 {
-    free(object->info);
+    free(object->units);
     if (object->dwfl != NULL)
         dwfl_end(object->dwfl);
     elf_end(object->own);

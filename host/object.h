@@ -7,11 +7,17 @@
 
 #include "shelf.h"
 
+enum { UNITS_TEXT = 80 }; /* room for the names of two sections */
+
+struct section_name {
+    const char *plain;
+    const char *packed; /* as older tools name a compressed one */
+};
+
 struct section_names {
-    const char *info;
-    const char *packed_info; /* as older tools name a compressed one */
-    const char *abbrev;
-    const char *packed_abbrev;
+    struct section_name info;
+    struct section_name types;
+    struct section_name abbrev;
     const char *note; /* what a file is that has these only */
 };
 
@@ -20,8 +26,9 @@ struct object {
     bool is_big;
     struct section_names names;
     Elf_Scn *abbrev;
-    size_t tables;  /* sections of tables; one is wanted */
-    Elf_Scn **info; /* compilers put type units into sections of their own */
+    size_t tables;   /* sections of tables; one is wanted */
+    Elf_Scn **units; /* .debug_info, then .debug_types; compilers put each type unit into a section of its own */
+    size_t infos;    /* how many of them are .debug_info */
     size_t count;
     Elf *own;   /* the file */
     Elf *elf;   /* the same, or a copy of it with relocations applied, which belongs to `dwfl` */
@@ -32,6 +39,9 @@ struct object {
  * are. After any status the object is to be closed. */
 enum status object_open(struct object *object, const char *name, int fd, bool exact);
 void object_close(struct object *object);
+
+/* Writes the names of the sections of units that are listed: one, or both with a text between. */
+void object_name_units(const struct object *object, const char *between, char text[UNITS_TEXT]);
 
 /* The bytes of a section, unpacked. */
 enum status object_bytes(const struct object *object, Elf_Scn *section, struct bytes *bytes);

@@ -17,7 +17,7 @@ static int no_debuginfo(Dwfl_Module *module, void **data, const char *name, Dwar
 static bool is_of(const struct object *object, size_t index)
 {
     for (size_t i = 0; i < object->count; i++)
-        if (elf_ndxscn(object->info[i]) == index)
+        if (elf_ndxscn(object->units[i]) == index)
             return true;
     return elf_ndxscn(object->abbrev) == index;
 }

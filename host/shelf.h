@@ -35,14 +35,19 @@ struct bytes {
     size_t count;
 };
 
+/* What a listing is said to be of, in a line before it. */
+enum heading { NO_HEADING, OF_FILE, OF_SECTION, OF_NAMED_SECTION };
+
 /* One section of units and the section with its tables. */
 struct build {
     const char *name;    /* FILE or FILE(MEMBER) */
     const char *section; /* the name of the section with the units */
     size_t index;        /* its place among the sections */
+    enum heading heading;
+    bool is_types; /* the section is .debug_types, else .debug_info */
     bool is_big;
     struct bytes abbrev;
-    struct bytes info;
+    struct bytes units;
 };
 
 /* messages.c: what is said on standard error */
@@ -79,13 +84,14 @@ enum { PLACE, DEPTH, TAG, CHILDREN, COUNT, ENTRY_WORDS };
 enum { NAME, FORM, CASE, LOW, HIGH, ATTRIBUTE_WORDS };
 
 /* show.c: the lines */
-void show_heading(const struct options *options, const char *name, size_t index); /* index 0: the file has one section */
+void show_heading(const struct options *options, const struct build *build);
 void show_unit(const struct options *options, const struct build *build, const uint64_t *header);
 void show_entry(const struct options *options, const struct build *build, const uint64_t *header, const uint64_t *entry, int64_t depth);
 void show_refusal(const struct options *options, uint64_t number);
 void show_end(const struct options *options);
 
-/* list.c: the units and entries of one build */
+/* list.c: the units and entries of one build. `has_unit` is false where the options ask for one unit that it does not have. */
+bool has_unit(const struct options *options, const struct build *build);
 enum status list_build(const struct options *options, const struct build *build);
 
 /* input.c: the builds of a file; of an archive, those of each member */

@@ -52,11 +52,11 @@ static void out_bytes(const uint8_t *bytes, size_t count, const char *between)
 /* The bytes of a string or block: a part of the unit, by its place and length. */
 static struct bytes part_of(const struct build *build, const uint64_t *header, const uint64_t *attribute)
 {
-    size_t unit = (size_t)header[OFFSET], all = build->info.count;
-    struct bytes none = {build->info.first, 0};
+    size_t unit = (size_t)header[OFFSET], all = build->units.count;
+    struct bytes none = {build->units.first, 0};
     if (unit > all || attribute[LOW] > all - unit || attribute[HIGH] > all - unit - attribute[LOW])
         return none;
-    return (struct bytes){build->info.first + unit + attribute[LOW], (size_t)attribute[HIGH]};
+    return (struct bytes){build->units.first + unit + attribute[LOW], (size_t)attribute[HIGH]};
 }
 
 static void out_high_low(const uint64_t *attribute)
@@ -237,16 +237,20 @@ void show_unit(const struct options *options, const struct build *build, const u
     out_char('\n');
 }
 
-/* Which file, and which section where it has several, a listing is of. In JSON every unit says so. */
-void show_heading(const struct options *options, const char *name, size_t index)
+/* Which file, and which section of it, a listing is of. In JSON every unit says so. */
+void show_heading(const struct options *options, const struct build *build)
 {
-    if (options->json)
+    if (options->json || build->heading == NO_HEADING)
         return;
     out_text("file ");
-    out_text(name);
-    if (index != 0) {
+    out_text(build->name);
+    if (build->heading >= OF_SECTION) {
         out_text(" section ");
-        out_number(index);
+        out_number(build->index);
+    }
+    if (build->heading == OF_NAMED_SECTION) {
+        out_char(' ');
+        out_text(build->section);
     }
     out_char('\n');
 }

@@ -2,7 +2,7 @@
  * writes to target/staticlib/. Every function may be called with any numbers and any slices that do not overlap.
  *
  * Each answers 0 or the number of a refusal (README.md has the numbers), and puts the words of its answer into `out`: the
- * words, then zeros, as many as are lent. After a refusal the words are zeros, but for tehkumir_next_unit. A slice is a
+ * words, then zeros, as many as are lent. After a refusal the words are zeros, but for the two lists of units. A slice is a
  * pointer and a count of elements; of an empty one the pointer is aligned and not null. A signed number stands in a word in two's
  * complement. A place counts from the first byte of the slice that it lies in.
  *
@@ -70,8 +70,18 @@ uint64_t tehkumir_read_initial_length(const uint8_t *bytes, size_t len, size_t a
 /* The HEADER at an offset of .debug_info. */
 uint64_t tehkumir_unit_header(const uint8_t *section, size_t len, uint64_t offset, bool is_big, uint64_t *out, size_t out_len);
 
-/* The list of units, from `at` on, 0 at first: where it goes on; then 1 and the HEADER, or 0 after the last unit. */
+/* The list of units of .debug_info, from `at` on, 0 at first: where it goes on; then 1 and the HEADER, or 0 after the last
+ * unit. */
 uint64_t tehkumir_next_unit(const uint8_t *section, size_t len, size_t at, bool is_big, uint64_t *out, size_t out_len);
+
+/* The same list of .debug_types. */
+uint64_t tehkumir_types_next_unit(const uint8_t *section, size_t len, size_t at, bool is_big, uint64_t *out, size_t out_len);
+
+/* The first unit of .debug_types, by place, that is of type 2 or 6 and carries the signature: its HEADER, which has 10 words,
+ * then the ENTRY at its type's offset. The rows are left with the unit's table, or zero where none was read. */
+uint64_t tehkumir_type_entry(const uint8_t *types, size_t types_len, const uint8_t *abbrevs, size_t abbrevs_len,
+                             uint64_t signature, bool is_big, uint64_t *rows, size_t rows_len, uint64_t *specs, size_t specs_len,
+                             uint64_t *out, size_t out_len);
 
 /* The ENTRY at an offset of the unit at `unit` of .debug_info, whose table the rows hold. */
 uint64_t tehkumir_entry(const uint8_t *section, size_t len, uint64_t unit, size_t offset, bool is_big, const uint64_t *rows,

@@ -33,6 +33,28 @@ unsafe extern "C" {
         len: usize,
     ) -> u64;
     pub fn tehkumir_next_unit(b: *const u8, n: usize, at: usize, is_big: bool, out: *mut u64, len: usize) -> u64;
+    pub fn tehkumir_types_next_unit(
+        b: *const u8,
+        n: usize,
+        at: usize,
+        is_big: bool,
+        out: *mut u64,
+        len: usize,
+    ) -> u64;
+    pub fn tehkumir_type_entry(
+        types: *const u8,
+        types_len: usize,
+        abbrevs: *const u8,
+        abbrevs_len: usize,
+        signature: u64,
+        is_big: bool,
+        rows: *mut u64,
+        rows_len: usize,
+        specs: *mut u64,
+        specs_len: usize,
+        out: *mut u64,
+        len: usize,
+    ) -> u64;
     pub fn tehkumir_entry(
         b: *const u8,
         n: usize,

@@ -19,9 +19,12 @@ pub const CURSOR: u8 = 13;
 pub const TREE: u8 = 14;
 /// The calls of `RAW` on a lent state.
 pub const RAW_LENT: u8 = 15;
-pub const LIST: u8 = 16;
+/// The list of units of .debug_types.
+pub const TYPES_NEXT: u8 = 16;
+pub const TYPE_ENTRY: u8 = 17;
+pub const LIST: u8 = 18;
 
-pub const KINDS: usize = 17;
+pub const KINDS: usize = 19;
 pub const NAMES: [&str; KINDS] = [
     "read_uleb128",
     "read_uleb128_u16",
@@ -39,13 +42,15 @@ pub const NAMES: [&str; KINDS] = [
     "cursor",
     "tree",
     "raw_lent",
+    "types_next_unit",
+    "type_entry",
     "list",
 ];
 
 /// Where the expected answer is not gimli's own. The first ones are the differences that
 /// docs/DIFFERENCES.md lists; from `CLOSED` on gimli cannot be asked, or its state is not looked at,
 /// and document 01 says what is expected.
-pub const CLASSES: usize = 13;
+pub const CLASSES: usize = 14;
 pub const CLASS_NAMES: [&str; CLASSES] = [
     "1: a position past the end of the bytes",
     "1: a section of more than 2^31 - 1 bytes",
@@ -54,6 +59,7 @@ pub const CLASS_NAMES: [&str; CLASSES] = [
     "13: more than 64 pairs",
     "15: rows full",
     "21: no root, or a level out of range",
+    "22: no unit has the signature",
     "2: a sum that wraps in skip_attributes",
     "(01) no more: a level in range where gimli has no iterator",
     "(01) a raw reader keeps its state after a refusal",
@@ -68,12 +74,13 @@ pub const FORGED_ROW: u32 = 1 << 3;
 pub const PAIRS: u32 = 1 << 4;
 pub const ROWS_FULL: u32 = 1 << 5;
 pub const LEVEL: u32 = 1 << 6;
-pub const WRAPS: u32 = 1 << 7;
-pub const CLOSED: u32 = 1 << 8;
-pub const RAW_KEPT: u32 = 1 << 9;
-pub const TREE_NEW: u32 = 1 << 10;
-pub const TREE_EMPTY: u32 = 1 << 11;
-pub const PAST_END: u32 = 1 << 12;
+pub const NO_TYPE: u32 = 1 << 7;
+pub const WRAPS: u32 = 1 << 8;
+pub const CLOSED: u32 = 1 << 9;
+pub const RAW_KEPT: u32 = 1 << 10;
+pub const TREE_NEW: u32 = 1 << 11;
+pub const TREE_EMPTY: u32 = 1 << 12;
+pub const PAST_END: u32 = 1 << 13;
 
 /// An abbreviation table: as bytes, as gimli read it, and as rows for the port. The rows may lie in
 /// any order, and have more codes than gimli's table where they break document 01's sizes.
@@ -90,18 +97,19 @@ pub struct Table {
 ///   0..3 at | 4 at, width, is_big | 5 at, is_big | 6 offset, is_big | 7 at, is_big
 ///   8 unit, offset, is_big | 9 offset | 10 code
 ///   11 start, at, version, is_64, width, is_big, name, form, constant
-///   12..15 start, version, is_64, width, is_big | 16 first, bytes of text lent
+///   12..15 start, version, is_64, width, is_big | 16 at, is_big | 17 signature, is_big
+///   18 first, bytes of text lent
 #[derive(Clone)]
 pub struct Case {
     pub kind: u8,
     pub n: [u64; 10],
     pub bytes: Arc<Vec<u8>>,
-    /// 16: .debug_abbrev
+    /// 17 and 18: .debug_abbrev
     pub second: Arc<Vec<u8>>,
     pub table: Option<Arc<Table>>,
     /// calls or levels
     pub calls: Vec<u64>,
-    /// 9 and 16: words lent for rows and specifications
+    /// 9, 17 and 18: words lent for rows and specifications
     pub lent: (usize, usize),
     /// where too few words may be lent for the answer (see `ask` in compare.rs)
     pub cut: Option<usize>,
@@ -144,7 +152,7 @@ impl Case {
     pub fn is_big(&self) -> bool {
         let i = match self.kind {
             WORD | ENTRY => 2,
-            INITIAL | HEADER | NEXT_UNIT => 1,
+            INITIAL | HEADER | NEXT_UNIT | TYPES_NEXT | TYPE_ENTRY => 1,
             ATTRIBUTE => 5,
             RAW | CURSOR | TREE | RAW_LENT => 4,
             _ => return false,
@@ -161,6 +169,11 @@ impl Case {
             width: self.n[3] as u8,
             is_big: self.n[4] != 0,
         }
+    }
+
+    /// Whether rows are lent to be filled.
+    pub fn fills(&self) -> bool {
+        matches!(self.kind, TABLE | TYPE_ENTRY | LIST)
     }
 
     /// A measure for the smallest of several.
@@ -221,8 +234,8 @@ pub fn signed(w: &[u64]) -> String {
     s.join(" ")
 }
 
-/// What is expected: a status and words. For a table also the rows, sorted since their order is left
-/// open, and the specifications; for a listing the text.
+/// What is expected: a status and words. For a table or a type also the rows, sorted since their order
+/// is left open, and the specifications; for a listing the text.
 #[derive(Clone, Default)]
 pub struct Answer {
     pub status: u64,

@@ -129,7 +129,7 @@ fn ask(case: &Case, x: &Answer, slack: usize, lent: &mut Lent) -> u64 {
         None => x.words.len() + slack,
     };
     lent.out.renew(room);
-    if matches!(case.kind, TABLE | LIST) {
+    if case.fills() {
         lent.rows.renew(case.lent.0);
         lent.specs.renew(case.lent.1);
     }
@@ -160,7 +160,7 @@ fn differs(case: &Case, x: &Answer, status: u64, lent: &Lent) -> Option<String> 
     if !(lent.out.is_kept() && lent.rows.is_kept() && lent.specs.is_kept() && lent.text.is_kept()) {
         return Some("words behind what was lent".into());
     }
-    if case.kind == TABLE {
+    if matches!(case.kind, TABLE | TYPE_ENTRY) {
         let mut rows: Vec<[u64; 5]> = lent.rows.chunks_exact(5).map(|r| r.try_into().unwrap()).collect();
         rows.sort();
         if rows != x.rows {
@@ -208,7 +208,7 @@ fn describe(case: &Case, x: &Answer, said: &str, status: u64, lent: &Lent) -> St
     s += &format!("\n    {said}");
     s += &format!("\n    expected {} : {}", x.status, list(&x.words));
     s += &format!("\n    port     {} : {}", status, list(&lent.out));
-    if case.kind == TABLE {
+    if matches!(case.kind, TABLE | TYPE_ENTRY) {
         s += &format!("\n    expected rows {:?} specs {}", x.rows, list(&x.specs));
         s += &format!("\n    port     rows {} specs {}", list(&lent.rows), list(&lent.specs));
     }
@@ -256,7 +256,7 @@ fn plant(rng: &mut Rng, case: &Case, status: &mut u64, lent: &mut Lent) {
     let change = 1 << rng.below(64);
     let parts = [1, lent.out.len(), lent.rows.len(), lent.specs.len(), lent.text.len()];
     let parts = match case.kind {
-        TABLE => &parts[..4],
+        TABLE | TYPE_ENTRY => &parts[..4],
         LIST => &parts[..],
         _ => &parts[..2],
     };
@@ -276,7 +276,7 @@ fn plant(rng: &mut Rng, case: &Case, status: &mut u64, lent: &mut Lent) {
             return;
         }
         i -= list.len();
-        if !matches!(case.kind, TABLE | LIST) {
+        if !case.fills() {
             return;
         }
     }
@@ -402,6 +402,14 @@ impl Comparer {
                     c.bytes = Arc::new(b);
                     next.push(c);
                 }
+            }
+            let few = if best.second.len() < 2000 { best.second.len() } else { 0 };
+            for i in 0..few {
+                let mut c = best.clone();
+                let mut b = (*c.second).clone();
+                b.remove(i);
+                c.second = Arc::new(b);
+                next.push(c);
             }
             for c in next {
                 tries += 1;

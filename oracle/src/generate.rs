@@ -224,6 +224,8 @@ pub struct Head {
     pub is_64: bool,
     pub width: u8,
     pub is_big: bool,
+    /// of .debug_types, where versions 2 to 4 have a signature too
+    pub is_types: bool,
     /// of version 5
     pub unit_type: u8,
     pub table: u64,
@@ -240,17 +242,24 @@ impl Head {
         if self.version == 5 {
             b.extend([self.unit_type, self.width]);
             put_word(&mut b, self.table, word, self.is_big);
-            if matches!(self.unit_type, 2 | 4 | 5 | 6) {
-                put_word(&mut b, self.signature, 8, self.is_big);
-            }
-            if matches!(self.unit_type, 2 | 6) {
-                put_word(&mut b, self.type_offset, word, self.is_big);
-            }
         } else {
             put_word(&mut b, self.table, word, self.is_big);
             b.push(self.width);
         }
+        if matches!(self.type_(), 2 | 4 | 5 | 6) {
+            put_word(&mut b, self.signature, 8, self.is_big);
+        }
+        if matches!(self.type_(), 2 | 6) {
+            put_word(&mut b, self.type_offset, word, self.is_big);
+        }
         b
+    }
+
+    fn type_(&self) -> u8 {
+        match self.version {
+            5 => self.unit_type,
+            _ => 1 + self.is_types as u8,
+        }
     }
 
     pub fn size(&self) -> usize {
@@ -280,6 +289,7 @@ fn head(rng: &mut Rng, is_big: bool) -> Head {
         is_64: rng.percent(40),
         width: rng.pick(&[1, 2, 4, 8]),
         is_big,
+        is_types: false,
         unit_type: rng.within(1, 6) as u8,
         table: rng.number(),
         signature: rng.word(),
@@ -324,40 +334,47 @@ fn headers(rng: &mut Rng, sink: &mut Sink) -> bool {
     let mut b = rng.bytes(lead);
     let n = rng.below(12);
     let entries = rng.bytes(n);
-    b.extend(odd_head(rng, is_big).unit(&entries, off(rng)));
+    let mut h = odd_head(rng, is_big);
+    h.is_types = rng.flip();
+    b.extend(h.unit(&entries, off(rng)));
     let tail = if rng.flip() { 0 } else { rng.below(12) };
     b.extend(rng.bytes(tail));
     if rng.percent(40) {
         damage(rng, &mut b);
     }
     let order = if rng.percent(95) { is_big } else { !is_big } as u64;
-    let at = place(rng, lead.min(b.len()), b.len());
     let b = Arc::new(b);
-    if !sink(cut(rng, Case::new(HEADER, &b, &[at, order])), None) {
-        return false;
-    }
-    let at = place(rng, lead.min(b.len()), b.len());
-    sink(cut(rng, Case::new(NEXT_UNIT, &b, &[at, order])), None)
+    [HEADER, NEXT_UNIT, TYPES_NEXT].iter().all(|k| {
+        let at = place(rng, lead.min(b.len()), b.len());
+        sink(cut(rng, Case::new(*k, &b, &[at, order])), None)
+    })
 }
 
 fn unit_list(rng: &mut Rng, sink: &mut Sink) -> bool {
     let is_big = rng.flip();
+    let is_types = rng.flip();
     let mut b = Vec::new();
     for _ in 0..rng.below(5) {
         let n = rng.below(20);
         let entries = rng.bytes(n);
-        let h = if rng.percent(85) { head(rng, is_big) } else { odd_head(rng, is_big) };
+        let mut h = if rng.percent(85) { head(rng, is_big) } else { odd_head(rng, is_big) };
+        h.is_types = is_types;
         let wrong = if rng.percent(90) { 0 } else { off(rng) };
         b.extend(h.unit(&entries, wrong));
     }
     if rng.percent(25) {
         damage(rng, &mut b);
     }
-    let b = Arc::new(b);
+    let kind = if is_types { TYPES_NEXT } else { NEXT_UNIT };
+    whole_list(rng, kind, &Arc::new(b), is_big, sink)
+}
+
+/// The list of units of a section from its first to its last, and from any place.
+fn whole_list(rng: &mut Rng, kind: u8, b: &Arc<Vec<u8>>, is_big: bool, sink: &mut Sink) -> bool {
     let order = is_big as u64;
     let mut at = 0;
     loop {
-        let case = Case::new(NEXT_UNIT, &b, &[at, order]);
+        let case = Case::new(kind, b, &[at, order]);
         let answer = crate::compare::expected(&case);
         let next = answer.words[0];
         let more = answer.status == 0 && answer.words[1] == 1;
@@ -370,11 +387,11 @@ fn unit_list(rng: &mut Rng, sink: &mut Sink) -> bool {
         }
     }
     // the list stays ended
-    if !sink(Case::new(NEXT_UNIT, &b, &[at, order]), None) {
+    if !sink(Case::new(kind, b, &[at, order]), None) {
         return false;
     }
     let at = place(rng, 0, b.len());
-    sink(cut(rng, Case::new(NEXT_UNIT, &b, &[at, order])), None)
+    sink(cut(rng, Case::new(kind, b, &[at, order])), None)
 }
 
 // ---- tables
@@ -468,6 +485,56 @@ pub fn put_table(rng: &mut Rng, shapes: &[Shape], out: &mut Vec<u8>) {
     }
 }
 
+/// Makes a table of which one abbreviation is refused, or nearly.
+fn spoil(rng: &mut Rng, shapes: &mut Vec<Shape>) {
+    let i = rng.below(shapes.len());
+    match rng.below(6) {
+        0 => {
+            let code = shapes[rng.below(shapes.len())].code;
+            let at = rng.within(i, shapes.len());
+            let again = shape(rng, code);
+            shapes.insert(at, again);
+        }
+        1 => {
+            // about as many pairs as there may be
+            let count = rng.within(62, 68);
+            shapes[i].specs = (0..count).map(|_| (name(rng), form(rng), 0)).collect();
+            if rng.flip() {
+                shapes[i].specs[count - 1].1 = 0x21;
+                shapes[i].specs[count - 1].2 = rng.number() as i64;
+            }
+        }
+        2 => {
+            if let Some(s) = shapes[i].specs.first_mut() {
+                s.0 = 0;
+            }
+        }
+        3 => {
+            if let Some(s) = shapes[i].specs.last_mut() {
+                s.1 = 0;
+            }
+        }
+        4 => shapes[i].tag = 0,
+        _ => {
+            if let Some(s) = shapes[i].specs.last_mut() {
+                *s = (name(rng), rng.pick(&UNKNOWN_FORMS), 0);
+            }
+        }
+    }
+}
+
+/// Words lent for rows of so many words, and some left over: as many rows as are needed, some more, or not enough.
+fn room(rng: &mut Rng, need: usize, words: usize) -> usize {
+    let rows = match rng.below(12) {
+        0 => need,
+        1 => need.saturating_sub(1),
+        2 => rng.below(need + 1),
+        3 => 0,
+        _ => need + rng.within(0, 6),
+    };
+    rows * words + rng.below(words)
+}
+
 fn tables(rng: &mut Rng, sink: &mut Sink) -> bool {
     let n = match rng.below(10) {
         0 => 0,
@@ -476,42 +543,8 @@ fn tables(rng: &mut Rng, sink: &mut Sink) -> bool {
         _ => rng.within(20, 60),
     };
     let mut shapes: Vec<Shape> = codes(rng, n).into_iter().map(|c| shape(rng, c)).collect();
-    if !shapes.is_empty() {
-        let i = rng.below(shapes.len());
-        match rng.below(16) {
-            0 => {
-                let code = shapes[rng.below(shapes.len())].code;
-                let at = rng.within(i, shapes.len());
-                let again = shape(rng, code);
-                shapes.insert(at, again);
-            }
-            1 => {
-                // about as many pairs as there may be
-                let count = rng.within(62, 68);
-                shapes[i].specs = (0..count).map(|_| (name(rng), form(rng), 0)).collect();
-                if rng.flip() {
-                    shapes[i].specs[count - 1].1 = 0x21;
-                    shapes[i].specs[count - 1].2 = rng.number() as i64;
-                }
-            }
-            2 => {
-                if let Some(s) = shapes[i].specs.first_mut() {
-                    s.0 = 0;
-                }
-            }
-            3 => {
-                if let Some(s) = shapes[i].specs.last_mut() {
-                    s.1 = 0;
-                }
-            }
-            4 => shapes[i].tag = 0,
-            5 => {
-                if let Some(s) = shapes[i].specs.last_mut() {
-                    *s = (name(rng), rng.pick(&UNKNOWN_FORMS), 0);
-                }
-            }
-            _ => {}
-        }
+    if !shapes.is_empty() && rng.percent(38) {
+        spoil(rng, &mut shapes);
     }
     let lead = if rng.percent(70) { 0 } else { rng.below(20) };
     let mut b = rng.bytes(lead);
@@ -529,21 +562,13 @@ fn tables(rng: &mut Rng, sink: &mut Sink) -> bool {
         damage(rng, &mut b);
     }
     let offset = place(rng, lead.min(b.len()), b.len());
-    // rows lent: as many as are needed, some more, or not enough
     let (_, all) = rules::table(&b, offset, rules::NO_LIMITS);
     let specs: usize = all.iter().map(|d| d.specs.len()).sum();
     let b = Arc::new(b);
     let turns = rng.within(1, 2);
     for _ in 0..turns {
         let mut case = Case::new(TABLE, &b, &[offset]);
-        let room = |rng: &mut Rng, need: usize| match rng.below(12) {
-            0 => need,
-            1 => need.saturating_sub(1),
-            2 => rng.below(need + 1),
-            3 => 0,
-            _ => need + rng.within(0, 6),
-        };
-        case.lent = (room(rng, all.len()) * 5 + rng.below(5), room(rng, specs) * 3 + rng.below(3));
+        case.lent = (room(rng, all.len(), 5), room(rng, specs, 3));
         if !sink(cut(rng, case), None) {
             return false;
         }
@@ -1356,10 +1381,128 @@ fn listings(rng: &mut Rng, sink: &mut Sink) -> bool {
     true
 }
 
+// ---- types by their signatures
+
+/// Tables one after the other, and the rows that the largest of them needs.
+#[derive(Default)]
+struct Tables {
+    section: Vec<u8>,
+    all: Vec<(u64, Vec<Shape>)>,
+    rows: usize,
+    specs: usize,
+}
+
+impl Tables {
+    fn add(&mut self, rng: &mut Rng) {
+        let shapes = entry_shapes(rng);
+        let mut written = shapes.clone();
+        if rng.percent(10) {
+            spoil(rng, &mut written);
+        }
+        self.all.push((self.section.len() as u64, shapes));
+        let from = self.section.len();
+        put_table(rng, &written, &mut self.section);
+        self.section.push(0);
+        if rng.percent(8) {
+            let mut own = self.section.split_off(from);
+            damage(rng, &mut own);
+            self.section.extend(own);
+        }
+        self.rows = written.len().max(self.rows);
+        self.specs = written.iter().map(|s| s.specs.len()).sum::<usize>().max(self.specs);
+    }
+
+    /// A new one, or one that other units have.
+    fn pick(&mut self, rng: &mut Rng) -> (u64, Vec<Shape>) {
+        if self.all.is_empty() || rng.percent(60) {
+            self.add(rng);
+        }
+        self.all[rng.below(self.all.len())].clone()
+    }
+}
+
+/// An offset for the type of a unit: that of an item, or around the unit's limits.
+fn type_offset(rng: &mut Rng, size: usize, e: &Entries) -> u64 {
+    let end = size + e.bytes.len();
+    let (nulls, entries): (Vec<usize>, Vec<usize>) = e.items.iter().partition(|i| e.bytes.get(**i) == Some(&0));
+    let at = match rng.below(30) {
+        0 => size - 1,
+        1 => size,
+        2 => end - 1,
+        3 => end,
+        4 => end + rng.within(1, 3),
+        5 => rng.below(size),
+        6 => rng.within(size, end),
+        7 => return rng.number(),
+        8 => return rng.pick(&[u64::MAX, 1 << 63, 1 << 32, (1 << 32) + size as u64, u64::MAX - size as u64]),
+        9 | 10 if !nulls.is_empty() => size + rng.pick(&nulls),
+        _ if !entries.is_empty() => size + rng.pick(&entries),
+        _ => size,
+    };
+    at as u64
+}
+
+fn type_unit(rng: &mut Rng, is_big: bool, signatures: &[u64], tables: &mut Tables) -> Vec<u8> {
+    let mut h = if rng.percent(88) { head(rng, is_big) } else { odd_head(rng, is_big) };
+    h.is_types = true;
+    h.signature = rng.pick(signatures);
+    let (table, shapes) = tables.pick(rng);
+    h.table = if rng.percent(95) { table } else { place(rng, table as usize, tables.section.len()) };
+    let u = Unit { version: h.version, is_64: h.is_64, width: h.width, is_big };
+    let wild = rng.flip();
+    let mut e = entries(rng, &shapes, u, h.size() as u64, wild);
+    match rng.below(16) {
+        0 => e.bytes.clear(),
+        1 => {
+            let n = rng.below(e.bytes.len() + 1);
+            e.bytes.truncate(n);
+        }
+        2 => damage(rng, &mut e.bytes),
+        _ => {}
+    }
+    h.type_offset = type_offset(rng, h.size(), &e);
+    h.unit(&e.bytes, if rng.percent(97) { 0 } else { off(rng) })
+}
+
+/// Units of .debug_types with few signatures, so that one is carried by several, or is a dwo_id, or has but one
+/// other bit.
+fn types(rng: &mut Rng, sink: &mut Sink) -> bool {
+    let is_big = rng.flip();
+    let one = rng.word();
+    let signatures = [one, one, one ^ 1 << rng.below(64), rng.number()];
+    let mut tables = Tables::default();
+    let mut b = Vec::new();
+    for _ in 0..rng.pick(&[0, 1, 2, 2, 3, 3, 4, 6]) {
+        b.extend(type_unit(rng, is_big, &signatures, &mut tables));
+    }
+    if rng.percent(15) {
+        damage(rng, &mut b);
+    }
+    let b = Arc::new(b);
+    let abbrevs = Arc::new(tables.section);
+    let order = if rng.percent(97) { is_big } else { !is_big } as u64;
+    for signature in signatures.into_iter().chain([rng.number()]) {
+        if signature != one && rng.flip() {
+            continue;
+        }
+        let mut case = Case::new(TYPE_ENTRY, &b, &[signature, order]);
+        case.second = abbrevs.clone();
+        case.lent = (tables.rows * 5 + rng.below(12), tables.specs * 3 + rng.below(9));
+        if rng.percent(15) {
+            case.lent = (room(rng, tables.rows, 5), room(rng, tables.specs, 3));
+        }
+        if !sink(cut(rng, case), None) {
+            return false;
+        }
+    }
+    whole_list(rng, TYPES_NEXT, &b, is_big, sink)
+}
+
 /// One scene of any sort. It says whether more are wanted.
 pub fn scene(rng: &mut Rng, sink: &mut Sink) -> bool {
     match rng.below(100) {
-        0..=29 => numbers(rng, sink),
+        0..=23 => numbers(rng, sink),
+        24..=29 => types(rng, sink),
         30..=34 => words(rng, sink),
         35..=42 => initial(rng, sink),
         43..=54 => headers(rng, sink),
@@ -1387,6 +1530,7 @@ pub fn long_sections(sink: &mut Sink) -> bool {
                 let cases = [
                     Case::new(HEADER, &b, &[at, order]),
                     Case::new(NEXT_UNIT, &b, &[at, order]),
+                    Case::new(TYPES_NEXT, &b, &[at, order]),
                     Case::new(ENTRY, &b, &[at, 11, order]).with(&table),
                     table_case,
                     Case::new(ULEB, &b, &[at]),
@@ -1399,6 +1543,38 @@ pub fn long_sections(sink: &mut Sink) -> bool {
                 }
             }
         }
+        if !long_types(&b, sink) {
+            return false;
+        }
     }
     true
+}
+
+/// Searches with a long section, as the types or as the tables beside none, a refused header, and a unit that
+/// has the signature, whose table lies at the first or the last byte or behind it.
+fn long_types(long: &Arc<Vec<u8>>, sink: &mut Sink) -> bool {
+    let none = Arc::new(Vec::new());
+    let mut all = vec![(long.clone(), none.clone()), (none, long.clone()), (Arc::new(vec![0; 4]), long.clone())];
+    let n = long.len() as u64;
+    for (table, inside) in [(0, 0), (n - 1, 0), (n, 0), (n + 1, 0), (n, 1)] {
+        let size = 23;
+        let h = Head {
+            version: 4,
+            is_64: false,
+            width: 8,
+            is_big: false,
+            is_types: true,
+            unit_type: 2,
+            table,
+            signature: 7,
+            type_offset: size + inside,
+        };
+        all.push((Arc::new(h.unit(&[1], 0)), long.clone()));
+    }
+    all.into_iter().all(|(types, abbrevs)| {
+        let mut case = Case::new(TYPE_ENTRY, &types, &[7, 0]);
+        case.second = abbrevs;
+        case.lent = (10, 6);
+        sink(case, None)
+    })
 }

@@ -57,7 +57,8 @@ pub fn answer(case: &Case) -> Answer {
     match case.kind {
         ULEB | ULEB16 | SLEB | SKIP_LEB | WORD | INITIAL => plain(case),
         HEADER => header(case),
-        NEXT_UNIT => next_unit(case),
+        NEXT_UNIT | TYPES_NEXT => next_unit(case),
+        TYPE_ENTRY => type_entry(case),
         ENTRY => entry(case),
         TABLE => table(case),
         GET => get(case),
@@ -143,6 +144,29 @@ fn header(case: &Case) -> Answer {
     }
 }
 
+/// gimli's list of the units of either section.
+enum Units<'a> {
+    Info(DebugInfoUnitHeadersIter<Slice<'a>>),
+    Types(DebugTypesUnitHeadersIter<Slice<'a>>),
+}
+
+impl<'a> Units<'a> {
+    fn new(kind: u8, section: &'a [u8], is_big: bool) -> Units<'a> {
+        let section = EndianSlice::new(section, endian(is_big));
+        match kind {
+            NEXT_UNIT => Units::Info(DebugInfo::from(section).units()),
+            _ => Units::Types(DebugTypes::from(section).units()),
+        }
+    }
+
+    fn next(&mut self) -> Result<Option<UnitHeader<Slice<'a>>>> {
+        match self {
+            Units::Info(units) => units.next(),
+            Units::Types(units) => units.next(),
+        }
+    }
+}
+
 fn next_unit(case: &Case) -> Answer {
     let b = &case.bytes[..];
     let at = case.n[0];
@@ -153,8 +177,7 @@ fn next_unit(case: &Case) -> Answer {
         return Answer { status: 1, words: vec![at], ..Answer::default() }.class(PAST_PLACE);
     }
     // gimli's own list from 0 on, as far as it comes to this place
-    let whole = DebugInfo::from(EndianSlice::new(b, endian(case.is_big())));
-    let mut units = whole.units();
+    let mut units = Units::new(case.kind, b, case.is_big());
     let mut place = 0;
     while place < at {
         match units.next() {
@@ -166,7 +189,7 @@ fn next_unit(case: &Case) -> Answer {
     let mut base = 0;
     if place != at {
         base = at;
-        units = DebugInfo::from(EndianSlice::new(&b[at as usize..], endian(case.is_big()))).units();
+        units = Units::new(case.kind, &b[at as usize..], case.is_big());
     }
     let mut a = Answer::default();
     match units.next() {
@@ -318,25 +341,37 @@ fn same(d: &rules::Declaration, a: &Abbreviation) -> bool {
         })
 }
 
-/// The rows from gimli's own abbreviations; which codes there are, and their order, is the harness's own
-/// reading, which has to agree with gimli's in every case.
 fn table(case: &Case) -> Answer {
-    let b = &case.bytes[..];
-    let (rows, specs) = case.lent;
-    let mut a = Answer { rows: vec![[0; 5]; rows / 5], specs: vec![0; specs], ..Answer::default() };
-    if b.len() > rules::MAX_SECTION {
+    let mut a = no_rows(case);
+    if case.bytes.len() > rules::MAX_SECTION {
         a.status = 1;
         return a.class(LONG_SECTION);
     }
-    let said = DebugAbbrev::from(EndianSlice::new(b, RunTimeEndian::Little))
-        .abbreviations(DebugAbbrevOffset(case.n[0] as usize));
+    if let Some((count, _)) = fill(&mut a, &case.bytes, case.n[0], case.lent) {
+        a.words.push(count);
+    }
+    a
+}
+
+/// All lent rows zero.
+fn no_rows(case: &Case) -> Answer {
+    let (rows, specs) = case.lent;
+    Answer { rows: vec![[0; 5]; rows / 5], specs: vec![0; specs], ..Answer::default() }
+}
+
+/// Puts a table into the rows of an answer, or its refusal into the status; how many abbreviations there are.
+/// The rows come from gimli's own; which codes there are, and their order, is the harness's own reading, which
+/// has to agree with gimli's in every case.
+fn fill(a: &mut Answer, b: &[u8], offset: u64, lent: (usize, usize)) -> Option<(u64, Abbreviations)> {
+    let said =
+        DebugAbbrev::from(EndianSlice::new(b, RunTimeEndian::Little)).abbreviations(DebugAbbrevOffset(offset as usize));
     let status = said.as_ref().map_or_else(number, |_| 0);
-    let (free, all) = rules::table(b, case.n[0], rules::NO_LIMITS);
+    let (free, all) = rules::table(b, offset, rules::NO_LIMITS);
     if free != status {
         a.trouble = Some(format!("the harness reads the table with {free}, gimli with {status}"));
     }
-    let limits = rules::Limits { pairs: 64, rows: rows / 5, specs: specs / 3 };
-    let (limited, _) = rules::table(b, case.n[0], limits);
+    let limits = rules::Limits { pairs: 64, rows: lent.0 / 5, specs: lent.1 / 3 };
+    let (limited, _) = rules::table(b, offset, limits);
     a.status = status;
     if limited != free {
         a.status = limited;
@@ -345,15 +380,14 @@ fn table(case: &Case) -> Answer {
             15 => ROWS_FULL,
             _ => 0,
         };
-        return a;
+        return None;
     }
-    let Ok(abbreviations) = said else { return a };
+    let abbreviations = said.ok()?;
     let mut first = 0;
-    a.words.push(all.len() as u64);
     for (i, d) in all.iter().enumerate() {
         let Some(found) = abbreviations.get(d.code).filter(|x| same(d, x)) else {
             a.trouble = Some(format!("the harness reads code {} otherwise than gimli", d.code));
-            return a;
+            return None;
         };
         let count = found.attributes().len();
         a.rows[i] = [found.code(), found.tag().0 as u64, found.has_children() as u64, first as u64, count as u64];
@@ -366,7 +400,76 @@ fn table(case: &Case) -> Answer {
         first += count;
     }
     a.rows.sort();
+    Some((all.len() as u64, abbreviations))
+}
+
+// ---- a type by its signature
+
+/// The signature and the type's offset of a type unit; a dwo_id is no signature.
+fn typed(h: &UnitHeader<Slice>) -> Option<(u64, UnitOffset)> {
+    match h.type_() {
+        UnitType::Type { type_signature, type_offset } => Some((type_signature.0, type_offset)),
+        UnitType::SplitType { type_signature, type_offset } => Some((type_signature.0, type_offset)),
+        _ => None,
+    }
+}
+
+/// The first unit in gimli's list with the signature, or a refusal: a header's, or 22 after the last.
+fn unit_with<'a>(case: &'a Case) -> std::result::Result<(UnitHeader<Slice<'a>>, UnitOffset), u64> {
+    let mut units = Units::new(case.kind, &case.bytes, case.is_big());
+    loop {
+        let h = units.next().map_err(|e| number(&e))?.ok_or(22u64)?;
+        if let Some((signature, offset)) = typed(&h)
+            && signature == case.n[0]
+        {
+            return Ok((h, offset));
+        }
+    }
+}
+
+fn type_entry(case: &Case) -> Answer {
+    let mut a = no_rows(case);
+    if case.bytes.len().max(case.second.len()) > rules::MAX_SECTION {
+        a.status = 1;
+        return a.class(LONG_SECTION);
+    }
+    let (h, offset) = match unit_with(case) {
+        Ok(found) => found,
+        Err(n) => {
+            a.status = n;
+            return if n == 22 { a.class(NO_TYPE) } else { a };
+        }
+    };
+    let inside = offset.0 >= h.header_size() && offset.0 < h.length_including_self();
+    if inside != offset.is_in_bounds(&h) {
+        a.trouble = Some("the harness bounds a unit otherwise than gimli".into());
+    }
+    if !inside {
+        a.status = 19;
+        return a;
+    }
+    let Some((_, abbreviations)) = fill(&mut a, &case.second, h.debug_abbrev_offset().0 as u64, case.lent) else {
+        return a;
+    };
+    match h.entry(&abbreviations, offset) {
+        Err(e) => a.status = number(&e),
+        Ok(e) => {
+            header_words(&h, 0, &mut a.words, &mut a.trouble);
+            let base = case.bytes.as_ptr() as usize + h.offset().0;
+            entry_words(&e, e.depth() as i64, base, &mut a.words);
+        }
+    }
     a
+}
+
+/// The signatures of a section's type units, as far as its list comes.
+pub fn signatures(types: &[u8], is_big: bool) -> Vec<u64> {
+    let mut units = Units::new(TYPE_ENTRY, types, is_big);
+    let mut all = Vec::new();
+    while let Ok(Some(h)) = units.next() {
+        all.extend(typed(&h).map(|t| t.0));
+    }
+    all
 }
 
 fn get(case: &Case) -> Answer {

@@ -84,8 +84,17 @@ impl Dies {
     }
 }
 
-const V4: Head =
-    Head { version: 4, is_64: false, width: 4, is_big: false, unit_type: 1, table: 0, signature: 0, type_offset: 0 };
+const V4: Head = Head {
+    version: 4,
+    is_64: false,
+    width: 4,
+    is_big: false,
+    is_types: false,
+    unit_type: 1,
+    table: 0,
+    signature: 0,
+    type_offset: 0,
+};
 
 /// An entry with one value of a form and one of form 0x0b, skipped and read.
 fn passed_and_read(all: &mut Vec<Case>, form: u16, width: u8, is_64: bool, version: u16, value: &[u8]) {
@@ -231,6 +240,7 @@ fn headers(all: &mut Vec<Case>) {
                     is_64,
                     width,
                     is_big,
+                    is_types: false,
                     unit_type,
                     table,
                     signature: if matches!(unit_type, 2 | 6) { 0xdead_beef_dead_beef } else { 0x0706_5040_0304_1050 },
@@ -269,6 +279,189 @@ fn headers(all: &mut Vec<Case>) {
         let b = [first, 0xff, 0xff, 0xff, 5, 0, 0, 0, 0, 0, 0, 0];
         all.push(case(INITIAL, &b, &[0, 0]));
         all.push(case(HEADER, &b, &[0, 0]));
+    }
+}
+
+/// The same of .debug_types: test_parse_type_unit_header_32_ok, test_parse_type_unit_header_64_ok, and the others.
+fn type_headers(all: &mut Vec<Case>) {
+    for (is_64, table) in [(false, 0x0807_0605), (true, 0x0102_0304_0506_0708)] {
+        for is_big in [false, true] {
+            let mut list = Vec::new();
+            for (version, unit_type) in [(2, 2), (3, 2), (4, 2), (5, 1), (5, 2), (5, 3), (5, 4), (5, 5), (5, 6)] {
+                let h = Head {
+                    version,
+                    is_64,
+                    width: 8,
+                    is_big,
+                    is_types: true,
+                    unit_type,
+                    table,
+                    signature: 0xdead_beef_dead_beef,
+                    type_offset: if is_64 { 0x7856_3412_7856_3412 } else { 0x7856_3412 },
+                };
+                list.extend(h.unit(&[1, 2, 3], 0));
+                if version == 4 {
+                    // units that end in the signature and in the type's offset
+                    for less in [9, 1] {
+                        let b = h.unit(&[], -less);
+                        all.push(case(TYPES_NEXT, &b[..b.len() - less as usize], &[0, is_big as u64]));
+                    }
+                }
+            }
+            let mut at = 0;
+            while at < list.len() as u64 {
+                let c = case(TYPES_NEXT, &list, &[at, is_big as u64]);
+                at = crate::compare::expected(&c).words[0];
+                all.push(c);
+            }
+            all.push(case(TYPES_NEXT, &list, &[list.len() as u64, is_big as u64]));
+        }
+    }
+    for b in [&[2, 0, 0, 0, 1, 0][..], &[2, 0, 0, 0, 6, 0], &[1, 0, 0, 0, 4], &[0xf0, 0xff, 0xff, 0xff], &[]] {
+        all.push(case(TYPES_NEXT, b, &[0, 0]));
+    }
+    for width in [3, 4] {
+        let h = Head { version: 5, unit_type: 7, width, ..V4 };
+        all.push(case(TYPES_NEXT, &h.unit(&[], 0), &[0, 0]));
+    }
+}
+
+const TYPED: Head = Head { is_types: true, unit_type: 2, signature: 7, ..V4 };
+
+/// A root, a structure with one member, and their nulls; `inside` is the type's offset behind the header.
+fn typed(h: Head, inside: i64) -> Vec<u8> {
+    let type_offset = (h.size() as u64).wrapping_add(inside as u64);
+    Head { type_offset, ..h }.unit(&[3, 1, 0x61, 0, 2, 5, 0, 0], 0)
+}
+
+fn search(types: &[u8], abbrevs: &[u8], signature: u64) -> Case {
+    let mut c = case(TYPE_ENTRY, types, &[signature, 0]);
+    c.second = Arc::new(abbrevs.to_vec());
+    c.lent = (5 * 64, 3 * 256);
+    c
+}
+
+/// The search for a type, each of its questions and their order.
+fn types(all: &mut Vec<Case>) {
+    let table = Abbrevs::new()
+        .abbrev(1, 0x13, true)
+        .attr(3, 8)
+        .attr_null()
+        .abbrev(2, 0x0d, false)
+        .attr(0x38, 0x0b)
+        .attr_null()
+        .abbrev(3, 0x41, true)
+        .attr_null()
+        .abbrev(4, 0x13, false)
+        .attr(3, 0x7f)
+        .attr_null()
+        .abbrev(5, 0x13, false)
+        .attr(3, 0x16)
+        .attr_null()
+        .null();
+    for is_64 in [false, true] {
+        for is_big in [false, true] {
+            for (version, unit_type) in [(2, 2), (3, 2), (4, 2), (5, 2), (5, 6)] {
+                let h = Head { version, is_64, is_big, unit_type, ..TYPED };
+                let mut c = search(&typed(h, 1), &table, 7);
+                c.n[1] = is_big as u64;
+                all.push(c);
+            }
+        }
+    }
+    // the type's offset: 0, below the header's size, at entries, in one, at nulls, at the end, past it
+    for inside in [-23, -1, 0, 1, 2, 6, 7, 8, 9] {
+        all.push(search(&typed(TYPED, inside), &table, 7));
+    }
+    for type_offset in [u64::MAX, 1 << 63, (1 << 32) + 40] {
+        let h = Head { is_64: true, type_offset, ..TYPED };
+        all.push(search(&h.unit(&[3, 0], 0), &table, 7));
+    }
+    // no entry bytes
+    for type_offset in [TYPED.size() as u64 - 1, TYPED.size() as u64] {
+        all.push(search(&Head { type_offset, ..TYPED }.unit(&[], 0), &table, 7));
+    }
+    let good = typed(TYPED, 1);
+    let other = typed(Head { signature: 8, ..TYPED }, 4);
+    let outside = typed(TYPED, -1);
+    let later = typed(TYPED, 4);
+    let of_type = |unit_type: u8| typed(Head { version: 5, unit_type, ..TYPED }, 1);
+    let refused = typed(Head { version: 6, ..TYPED }, 1);
+    let width = typed(Head { width: 3, ..TYPED }, 1);
+    let no_table = typed(Head { table: table.len() as u64 + 1, ..TYPED }, 1);
+    let lists: [&[&[u8]]; 13] = [
+        &[&good, &other],
+        &[&other, &good],
+        &[&good, &later],
+        &[&later, &good],
+        &[&outside, &good],
+        &[&good, &refused],
+        &[&refused, &good],
+        &[&other, &refused, &good],
+        &[&other, &width],
+        &[&other, &good[..good.len() - 1]],
+        &[&good, &[0xf0, 0xff, 0xff, 0xff]],
+        &[&other, &[0xf0, 0xff, 0xff, 0xff], &good],
+        &[&no_table, &good],
+    ];
+    for list in lists {
+        all.push(search(&list.concat(), &table, 7));
+    }
+    let without: [&[&[u8]]; 4] = [&[], &[&good, &later], &[&good, &refused], &[&good, &width]];
+    for list in without {
+        all.push(search(&list.concat(), &table, 9));
+    }
+    all.push(search(&good, &table, 7 + (1 << 32)));
+    // numbers of other types, and unknown types
+    for unit_type in [1, 3, 4, 5, 7] {
+        let first = of_type(unit_type);
+        all.push(search(&first, &table, 7));
+        all.push(search(&[&first[..], &good].concat(), &table, 7));
+    }
+    // tables refused, or missing; the type's offset is asked before
+    let end = table.len() as u64;
+    let sections: [&[u8]; 8] = [
+        &[1, 0, 0],
+        &[1, 0x2e, 2],
+        &[1, 0x2e, 1, 0, 8, 0, 0],
+        &[1, 0x2e, 1, 3, 0],
+        &[1, 0x2e],
+        &[1, 0x80, 0x80, 4],
+        &[1, 0x2e, 1, 3, 0x21, 0x80, 0x80, 0x80, 0x80, 0x80, 0x80, 0x80, 0x80, 0x80, 1],
+        &[],
+    ];
+    for section in sections {
+        all.push(search(&good, section, 7));
+    }
+    for b in [&outside, &typed(TYPED, 8)] {
+        all.push(search(b, sections[0], 7));
+    }
+    all.push(search(&good, &[&table[..table.len() - 1], &table[..]].concat(), 7));
+    for at in [end - 1, end, end + 1, 0xffff_ffff] {
+        all.push(search(&typed(Head { table: at, ..TYPED }, 1), &table, 7));
+    }
+    for lent in [(0, 0), (20, 768), (25, 9), (25, 12)] {
+        for b in [&good, &outside] {
+            let mut c = search(b, &table, 7);
+            c.lent = lent;
+            all.push(c);
+        }
+    }
+    // entries refused
+    let long = [0x80, 0x80, 0x80, 0x80, 0x80, 0x80, 0x80, 0x80, 0x80, 2];
+    let entries: [&[u8]; 8] = [
+        &[6],
+        &[0x80],
+        &[4, 1],
+        &[5, 0x21],
+        &[1, 0x61],
+        &long,
+        &[&[5, 0x0f], &long[..]].concat(),
+        &[&[5, 0x0d], &long[..]].concat(),
+    ];
+    for b in entries {
+        let h = Head { type_offset: TYPED.size() as u64, ..TYPED };
+        all.push(search(&h.unit(b, 0), &table, 7));
     }
 }
 
@@ -535,7 +728,9 @@ pub fn cases() -> Vec<Case> {
     let mut all = Vec::new();
     numbers(&mut all);
     headers(&mut all);
+    type_headers(&mut all);
     tables(&mut all);
+    types(&mut all);
     values(&mut all);
     entries(&mut all);
     all

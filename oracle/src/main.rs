@@ -24,7 +24,7 @@ const BLOCK: u64 = 20_000;
 
 fn usage() -> ! {
     eprintln!(
-        "usage: oracle-compare [--cases N] [--seed S] [--threads T] [--copies N] [--plant] [--quick] [--pair le|be ABBREV INFO]..\n\
+        "usage: oracle-compare [--cases N] [--seed S] [--threads T] [--copies N] [--plant] [--quick] [--pair le|be ABBREV INFO].. [--types le|be ABBREV TYPES]..\n\
          \x20      oracle-compare --sample N [--seed S] FILE\n\
          \x20      oracle-compare --replay FILE"
     );
@@ -72,7 +72,7 @@ fn options() -> Options {
             "--quick" => o.quick = true,
             "--sample" => o.sample = Some(number(arg())),
             "--replay" => o.replay = Some(arg()),
-            "--pair" => {
+            "--pair" | "--types" => {
                 let is_big = match arg().as_str() {
                     "le" => false,
                     "be" => true,
@@ -87,7 +87,9 @@ fn options() -> Options {
                     }
                 };
                 let name = info.rsplit('/').next().unwrap_or(&info).to_string();
-                o.pairs.push(Pair { name, is_big, abbrev: read(&abbrev), info: read(&info) });
+                let (abbrev, info) = (read(&abbrev), read(&info));
+                let types = (a == "--types").then(|| gimli_side::signatures(&info, is_big));
+                o.pairs.push(Pair { name, is_big, abbrev, info, types });
             }
             _ if a.starts_with("--") || o.file.is_some() => usage(),
             _ => o.file = Some(a),

@@ -10,11 +10,14 @@ use crate::random::Rng;
 use std::collections::HashMap;
 use std::sync::Arc;
 
+#[derive(Clone)]
 pub struct Pair {
     pub name: String,
     pub is_big: bool,
     pub abbrev: Arc<Vec<u8>>,
     pub info: Arc<Vec<u8>>,
+    /// .debug_types in the place of .debug_info: the signatures of the undamaged section
+    pub types: Option<Vec<u64>>,
 }
 
 /// Of a walk over a unit in one go.
@@ -28,10 +31,14 @@ fn part(kind: u8, bytes: &Arc<Vec<u8>>, h: &[u64], start: u64, is_big: bool, t: 
 /// All units of a pair. `most` bounds the calls of each walk.
 pub fn pair(p: &Pair, c: &mut Comparer, rng: &mut Rng, most: usize) {
     let order = p.is_big as u64;
+    if let Some(signatures) = &p.types {
+        search(p, signatures, c, rng);
+    }
+    let list = if p.types.is_some() { TYPES_NEXT } else { NEXT_UNIT };
     let mut tables: HashMap<u64, Option<Arc<Table>>> = HashMap::new();
     let mut at = 0;
     loop {
-        let case = Case::new(NEXT_UNIT, &p.info, &[at, order]);
+        let case = Case::new(list, &p.info, &[at, order]);
         let x = expected(&case);
         let words = x.words.clone();
         let more = x.status == 0 && words.get(1) == Some(&1);
@@ -55,6 +62,15 @@ pub fn pair(p: &Pair, c: &mut Comparer, rng: &mut Rng, most: usize) {
         let Some(t) = table.clone() else { continue };
         let bytes = Arc::new(p.info[(offset + size) as usize..next as usize].to_vec());
         unit(&bytes, h, size, p.is_big, &t, c, rng, most);
+        if p.types.is_some() {
+            // from the type on
+            let inner = if h.len() == 10 { h[9] } else { size };
+            if inner > size && inner < next - offset {
+                let bytes = Arc::new(p.info[(offset + inner) as usize..next as usize].to_vec());
+                unit(&bytes, h, inner, p.is_big, &t, c, rng, most);
+            }
+            continue;
+        }
         // single entries of the unit, at random places
         for _ in 0..20 {
             let inner = rng.below((next - offset) as usize + 2) as u64;
@@ -80,11 +96,25 @@ pub fn pair(p: &Pair, c: &mut Comparer, rng: &mut Rng, most: usize) {
     }
 }
 
+/// Each signature, one with another bit, and one that is in no unit.
+fn search(p: &Pair, signatures: &[u64], c: &mut Comparer, rng: &mut Rng) {
+    // no table of the section needs more
+    let lent = (p.abbrev.len() + 7, p.abbrev.len() * 3 / 2 + 4);
+    let near = signatures.first().map_or(0, |s| s ^ 1 << rng.below(64));
+    for signature in signatures.iter().copied().chain([near, rng.word()]) {
+        let mut case = Case::new(TYPE_ENTRY, &p.info, &[signature, p.is_big as u64]);
+        case.second = p.abbrev.clone();
+        case.lent = lent;
+        c.put(&case, None);
+    }
+}
+
+/// Walks over a part of a unit, from `start` on.
 #[allow(clippy::too_many_arguments)]
 fn unit(
     bytes: &Arc<Vec<u8>>,
     h: &[u64],
-    size: u64,
+    start: u64,
     is_big: bool,
     t: &Arc<Table>,
     c: &mut Comparer,
@@ -92,17 +122,17 @@ fn unit(
     most: usize,
 ) {
     // how many items there are
-    let mut probe = part(RAW, bytes, h, size, is_big, t);
+    let mut probe = part(RAW, bytes, h, start, is_big, t);
     probe.calls = vec![1; bytes.len().min(most)];
     let x = expected(&probe);
     let items = x.said.iter().position(|s| *s != 0).unwrap_or(x.said.len()) + 1;
     for op in [0, 1, 2] {
-        let mut case = part(RAW, bytes, h, size, is_big, t);
+        let mut case = part(RAW, bytes, h, start, is_big, t);
         case.calls = (0..items).map(|_| if op == 2 { rng.below(2) as u64 } else { op }).collect();
         c.put(&case, None);
     }
     for mode in 0..4 {
-        let mut case = part(CURSOR, bytes, h, size, is_big, t);
+        let mut case = part(CURSOR, bytes, h, start, is_big, t);
         case.calls = (0..items + 1)
             .map(|i| match mode {
                 0 => 0,
@@ -115,7 +145,7 @@ fn unit(
         c.put(&case, None);
     }
     for mode in 0..3 {
-        let mut case = part(TREE, bytes, h, size, is_big, t);
+        let mut case = part(TREE, bytes, h, start, is_big, t);
         let (x, calls) = match mode {
             0 => gimli_side::tree(&case, &mut Whole { most: (items * 2 + 2).min(most) }),
             1 => gimli_side::tree(&case, &mut gimli_side::Fixed(&[vec![0], vec![1; items.min(2000)]].concat())),
@@ -150,7 +180,7 @@ pub fn damaged(p: &Pair, rng: &mut Rng) -> Pair {
             _ => b[at] ^= 1 << rng.below(8),
         }
     }
-    Pair { name: p.name.clone(), is_big: p.is_big, abbrev: Arc::new(abbrev), info: Arc::new(info) }
+    Pair { abbrev: Arc::new(abbrev), info: Arc::new(info), ..p.clone() }
 }
 
 pub fn whole(p: &Pair, c: &mut Comparer, rng: &mut Rng) {

@@ -34,7 +34,7 @@ fn encode(case: &Case, x: &Answer) -> Vec<u8> {
         b.extend(n.to_le_bytes());
     }
     put_bytes(&mut b, &case.bytes);
-    put_bytes(&mut b, case.table.as_ref().map_or(&[], |t| &t.section));
+    put_bytes(&mut b, case.table.as_ref().map_or(&case.second, |t| &t.section));
     put_words(&mut b, &case.calls);
     let mut words = vec![x.status];
     words.extend(&x.words);
@@ -51,7 +51,7 @@ fn settle(case: &Case, x: Answer) -> Option<(Case, Answer)> {
     if x.trouble.is_some() || case.kind == LIST || case.cut.is_some() {
         return None;
     }
-    let bytes = case.bytes.len() + case.table.as_ref().map_or(0, |t| t.section.len());
+    let bytes = case.bytes.len() + case.second.len() + case.table.as_ref().map_or(0, |t| t.section.len());
     if bytes >= MOST_BYTES {
         return None;
     }
@@ -60,7 +60,7 @@ fn settle(case: &Case, x: Answer) -> Option<(Case, Answer)> {
             return None;
         }
     }
-    if case.kind == TABLE {
+    if case.fills() {
         case.lent = (5 * MOST_ROWS, 3 * MOST_SPECS);
         x = expected(&case);
     }
@@ -84,7 +84,7 @@ fn settle(case: &Case, x: Answer) -> Option<(Case, Answer)> {
         case.calls.pop();
         x = expected(&case);
     }
-    if x.words.len() >= MOST_WORDS || x.classes & !(RAW_KEPT | TREE_NEW) != 0 {
+    if x.words.len() >= MOST_WORDS || x.classes & !(RAW_KEPT | TREE_NEW | NO_TYPE) != 0 {
         return None;
     }
     Some((case, x))
@@ -102,8 +102,13 @@ fn marks(case: &Case, x: &Answer) -> Vec<(u8, u64, u64)> {
             m.push((case.kind, x.words[3], 5));
         }
     }
-    if case.kind == HEADER && x.status == 0 {
-        m.push((case.kind, x.words[7] * 100 + x.words[2] * 10 + x.words[3], 6));
+    let header = match case.kind {
+        HEADER | TYPE_ENTRY => &x.words[..],
+        TYPES_NEXT => x.words.get(2..).unwrap_or(&[]),
+        _ => &[],
+    };
+    if x.status == 0 && header.len() > 7 {
+        m.push((case.kind, header[7] * 100 + header[2] * 10 + header[3], 6));
     }
     m.sort();
     m.dedup();
@@ -127,6 +132,7 @@ struct Taken {
     shown: std::collections::BTreeMap<(u8, u64, u64), usize>,
     kinds: [usize; KINDS],
     statuses: BTreeSet<u64>,
+    of_types: BTreeSet<u64>,
     forms: BTreeSet<u64>,
     skipped: BTreeSet<u64>,
     orders: BTreeSet<(u8, bool)>,
@@ -155,6 +161,9 @@ impl Taken {
         self.kinds[case.kind as usize] += 1;
         self.statuses.insert(x.status);
         self.statuses.extend(&x.said);
+        if case.kind == TYPE_ENTRY {
+            self.of_types.insert(x.status);
+        }
         self.orders.insert((case.kind, case.is_big()));
         if case.kind == ATTRIBUTE && x.status == 0 {
             self.forms.insert(case.n[7]);
@@ -181,7 +190,7 @@ pub fn write(path: &str, count: usize, seed: u64) -> std::io::Result<bool> {
     let mut rng = Rng::new(seed, 0);
     let mut tries = 0;
     let mut have = take.count();
-    let each = (count.saturating_sub(have) / 15).max(1);
+    let each = (count.saturating_sub(have) / 17).max(1);
     let mut taken = [0usize; KINDS];
     while have < count && tries < 400_000 {
         let of_units = rng.percent(20);
@@ -211,7 +220,7 @@ pub fn write(path: &str, count: usize, seed: u64) -> std::io::Result<bool> {
             generate::scene(&mut rng, &mut sink);
         }
     }
-    let Taken { out, kinds, statuses, forms, skipped, orders, .. } = take;
+    let Taken { out, kinds, statuses, of_types, forms, skipped, orders, .. } = take;
     let mut f = std::io::BufWriter::new(std::fs::File::create(path)?);
     for b in &out {
         f.write_all(b)?;
@@ -222,7 +231,7 @@ pub fn write(path: &str, count: usize, seed: u64) -> std::io::Result<bool> {
     println!("the longest: {} bytes", out.iter().map(|b| b.len()).max().unwrap_or(0));
     println!("{left_out} of the known cases left out (repeated, too long, or not gimli's own answer)");
     let mut good = true;
-    for k in 0..16 {
+    for k in 0..LIST as usize {
         println!("  {:20} {}", NAMES[k], kinds[k]);
         good &= kinds[k] != 0;
     }
@@ -230,6 +239,12 @@ pub fn write(path: &str, count: usize, seed: u64) -> std::io::Result<bool> {
     for n in refusals {
         if !statuses.contains(&n) {
             println!("  no case is refused with {n}");
+            good = false;
+        }
+    }
+    for n in refusals.into_iter().chain([22]) {
+        if !of_types.contains(&n) {
+            println!("  no type is refused with {n}");
             good = false;
         }
     }
@@ -243,7 +258,7 @@ pub fn write(path: &str, count: usize, seed: u64) -> std::io::Result<bool> {
             good = false;
         }
     }
-    for k in [WORD, INITIAL, HEADER, NEXT_UNIT, ENTRY, ATTRIBUTE, RAW, CURSOR, TREE, RAW_LENT] {
+    for k in [WORD, INITIAL, HEADER, NEXT_UNIT, ENTRY, ATTRIBUTE, RAW, CURSOR, TREE, RAW_LENT, TYPES_NEXT, TYPE_ENTRY] {
         for big in [false, true] {
             if !orders.contains(&(k, big)) {
                 println!("  {}: not in both orders", NAMES[k as usize]);
@@ -294,7 +309,9 @@ fn replay_one(b: &[u8]) -> Option<bool> {
     let mut lent = Lent::default();
     lent.rows.renew(5 * MOST_ROWS);
     lent.specs.renew(3 * MOST_SPECS);
-    if matches!(kind, ENTRY | GET | RAW | CURSOR | TREE | RAW_LENT) {
+    if kind == TYPE_ENTRY {
+        case.second = Arc::new(section);
+    } else if matches!(kind, ENTRY | GET | RAW | CURSOR | TREE | RAW_LENT) {
         lent.out.renew(1);
         let table = Case::new(TABLE, &Arc::new(section.clone()), &[0]);
         if port::call(&table, &mut lent) != 0 {

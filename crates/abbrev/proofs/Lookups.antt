@@ -14,7 +14,7 @@ use lib.Seq.{getD-take, getD-drop, take-at, drop-at}
 use Rattle.reader.specs.Answer.{Answer, got, refused, andThen, Holds}
 use Rattle.reader.proofs.Answers.{cond-by}
 use Rattle.abbrev.specs.Lookup.{column, indexOf, specAt, specsFrom, fair, allFair, specificationAt, specificationIn, Found, rowAt, specsKept, keepsSizes, judgedRow, rowFound, leading, lookup, declarationOf, declaredIn}
-use Rattle.abbrev.specs.Rows.{specWords, allSpecs, Row, rowWords, rowsWords, rowsFrom, Laid, Left}
+use Rattle.abbrev.specs.Rows.{specWords, allSpecs, Row, rowWords, rowsWords, rowsFrom, tableRows, Laid, Left}
 use Rattle.abbrev.specs.Table.{Specification, Declaration, Limit, abbreviationsAt}
 use Rattle.abbrev.proofs.Attributes.{words-append}
 use Rattle.abbrev.proofs.Bounds.{In, Proper, Sound, in-rows, sound}
@@ -236,6 +236,19 @@ lookup-same {rows = rows} {rows' = rows'} {specs = specs} {t = t} most S L L' c 
     by (found r i p q) =
         ap (λ (n : ℕ). lookup most rows specs n) (sym p) ∙ lookup-row L most S r i ∙ sym (lookup-row L' most S r i) ∙ ap (λ (n : ℕ). lookup most rows' specs n) p
     by (missing h q) = lookup-none L most c h ∙ sym (lookup-none L' most c h)
+
+perm-same : (l : List Row) → List·Permᴰ l l
+perm-same [] = List·Permᴰ·nil
+perm-same (r ∷ l) = List·Permᴰ·cons refl (perm-same l)
+
+-- the table in file order is one that the table call may leave
+in-order : {m k : ℕ} {rows specs : List ℕ} {t : List Declaration} → Laid m k rows specs t → Laid m k (tableRows m t) specs t
+in-order {t = t} L = record { rowChoice = rowsFrom 0 t; all = perm-same (rowsFrom 0 t); rows-are = refl; specs-are = L .specs-are }
+
+-- and answers alike
+pub lookup-in-order : {m k : ℕ} {rows specs : List ℕ} {t : List Declaration} (most : ℕ) → Sound most t → Laid m k rows specs t
+    → (c : ℕ) → lookup most rows specs c ≡ lookup most (tableRows m t) specs c
+lookup-in-order most S L = lookup-same most S L (in-order L)
 
 -- the same of what the table call leaves
 pub table-lookup : (s : List ℕ) (offset : ℕ) (l : Limit) (m k : ℕ) (rows specs : List ℕ) → Left m k rows specs (abbreviationsAt s offset l (m / 5) (k / 3))

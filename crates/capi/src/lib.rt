@@ -8,5 +8,5 @@ pub mod numbers; // LEB128 numbers and words
 mod out; // words stored
 pub mod raw; // the raw reader's calls
 pub mod tables; // abbreviation tables
-pub mod units; // headers and entries by offset
+pub mod units; // headers, entries by offset, types by signature
 pub mod values; // single values

@@ -1,12 +1,14 @@
-// Unit headers, the list of units, and an entry by its offset.
+// Unit headers, the lists of units, an entry by its offset, and a type by its signature.
 
 ghost use Rattle.abbrev.specs.Table.{entryLimit};
 ghost use Rattle.unit.specs.Header.{typeNumber};
-ghost use Rattle.unit.specs.Parse.{debugInfo, headerAt};
+ghost use Rattle.unit.specs.Parse.{debugInfo, debugTypes, headerAt};
 ghost use Rattle.unit.specs.Units.{nextUnit};
+ghost use Rattle.unit.specs.Views.{viewNextIn};
 ghost use Rattle.capi.specs.Words.{Says, Gives, statusOf, endianOf, typeWords, headerWords, entryWords, advancedWords, readHeaderWords, Put};
 ghost use Rattle.entries.specs.Views.{viewEntryAt};
-ghost use Rattle.capi.specs.Units.{entryOr, entryIn};
+ghost use Rattle.capi.specs.Units.{entryOr, entryIn, typeOr, typeUnitWords, TypeReadAs};
+ghost use Rattle.typeunit.specs.Views.{viewTypeEntry};
 ghost use mathlib.Core.List.{_∷_};
 ghost use Prim.Native.Nat.{_≤_};
 ghost use lib.ListN.{length};
@@ -18,16 +20,21 @@ use super::out::put3;
 use super::out::put5;
 use super::out::refuse;
 use entries::open::EntryAt;
+use entries::open::UnitAt;
 use entries::open::entry;
 use entries::raw::Outcome;
 use reader::error::Error;
 use reader::fill::clear_words;
+use typeunit::types::TypeEntry;
+use typeunit::types::type_entry;
 use unit::header::UnitHeader;
 use unit::header::UnitType;
 use unit::parse::Header;
+use unit::parse::SectionId;
 use unit::units::DebugInfo;
-use unit::units::DebugInfoUnitHeadersIter;
+use unit::units::NextIn;
 use unit::units::NextUnit;
+use unit::units::next_in;
 
 // The number of a unit's type and what only that type has.
 fn put_type(out: &mut [u64], at: usize, unit_type: UnitType) -> usize
@@ -87,23 +94,12 @@ pub extern "C" fn tehkumir_unit_header(
     }
 }
 
-// The list of units at one of its offsets, 0 at first. Words: where it goes on, then 1 and the header,
-// or 0 after the last.
-#[no_mangle]
-pub extern "C" fn tehkumir_next_unit(
-    section: &[u8],
-    at: usize,
-    is_big: bool,
-    out: &mut [u64],
-) -> u64
-    ensures { λ r. ⌜ Says (statusOf (nextUnit (now (section .entry)) at (endianOf «is_big») .answer)) (advancedWords (nextUnit (now (section .entry)) at (endianOf «is_big»))) (now (out .entry)) (now (out .exit)) r ⌝ }
+// Where the list of units goes on, then 1 and the header, or 0 after the last.
+fn give_next(out: &mut [u64], next: NextIn) -> u64
+    ensures { λ r. ⌜ Says (statusOf (viewNextIn next .answer)) (advancedWords (viewNextIn next)) (now (out .entry)) (now (out .exit)) r ⌝ }
 {
-    let endian = endian_of(is_big);
-    let units = DebugInfoUnitHeadersIter { offset: at };
-    let next = units.next(section, endian);
     let unit = next.unit;
-    let after = next.units;
-    let first = put(out, 0, after.offset as u64);
+    let first = put(out, 0, next.offset as u64);
     match unit {
         NextUnit::Header(header) => {
             let second = put(out, first, 1);
@@ -121,6 +117,37 @@ pub extern "C" fn tehkumir_next_unit(
             e.number()
         }
     }
+}
+
+// The list of units of .debug_info at one of its offsets, 0 at first. Words: where it goes on, then 1
+// and the header, or 0 after the last.
+#[no_mangle]
+pub extern "C" fn tehkumir_next_unit(
+    section: &[u8],
+    at: usize,
+    is_big: bool,
+    out: &mut [u64],
+) -> u64
+    ensures { λ r. ⌜ Says (statusOf (nextUnit debugInfo (now (section .entry)) at (endianOf «is_big») .answer)) (advancedWords (nextUnit debugInfo (now (section .entry)) at (endianOf «is_big»))) (now (out .entry)) (now (out .exit)) r ⌝ }
+{
+    let endian = endian_of(is_big);
+    let next = next_in(SectionId::DebugInfo, section, at, endian);
+    give_next(out, next)
+}
+
+// The same list of .debug_types.
+#[no_mangle]
+pub extern "C" fn tehkumir_types_next_unit(
+    section: &[u8],
+    at: usize,
+    is_big: bool,
+    out: &mut [u64],
+) -> u64
+    ensures { λ r. ⌜ Says (statusOf (nextUnit debugTypes (now (section .entry)) at (endianOf «is_big») .answer)) (advancedWords (nextUnit debugTypes (now (section .entry)) at (endianOf «is_big»))) (now (out .entry)) (now (out .exit)) r ⌝ }
+{
+    let endian = endian_of(is_big);
+    let next = next_in(SectionId::DebugTypes, section, at, endian);
+    give_next(out, next)
 }
 
 fn give_entry(out: &mut [u64], read: EntryAt) -> u64
@@ -165,4 +192,39 @@ pub extern "C" fn tehkumir_entry(
         }
         Header::Refused(e) => refuse(out, e),
     }
+}
+
+fn give_type(out: &mut [u64], read: TypeEntry) -> u64
+    ensures { λ r. ⌜ Gives typeUnitWords (typeOr (viewTypeEntry read)) (now (out .entry)) (now (out .exit)) r ⌝ }
+{
+    let answer = read.answer;
+    let entry = read.entry;
+    match answer {
+        UnitAt::Got(header) => {
+            let first = put_header(out, 0, header);
+            let end = put_entry(out, first, entry);
+            clear_words(out, end);
+            0
+        }
+        UnitAt::Refused(e) => refuse(out, e),
+    }
+}
+
+// The first unit of .debug_types that carries the signature, and its type entry. The unit's table is
+// left in the rows, which are zero where none was read. Words: the header, which has 10, and the entry.
+#[no_mangle]
+pub extern "C" fn tehkumir_type_entry(
+    types: &[u8],
+    abbrevs: &[u8],
+    signature: u64,
+    is_big: bool,
+    rows: &mut [u64],
+    specs: &mut [u64],
+    out: &mut [u64],
+) -> u64
+    ensures { λ r. ⌜ TypeReadAs (now (abbrevs .entry)) (now (types .entry)) signature (endianOf «is_big») (now (rows .entry)) (now (specs .entry)) (now (rows .exit)) (now (specs .exit)) (now (out .entry)) (now (out .exit)) r ⌝ }
+{
+    let endian = endian_of(is_big);
+    let read = type_entry(types, signature, abbrevs, endian, rows, specs);
+    give_type(out, read)
 }

@@ -12,3 +12,4 @@ pub mod OpenLaws
 pub mod SkipLaws
 pub mod KeepLaws
 pub mod OneLaws
+pub mod SameLaws

@@ -10,7 +10,7 @@ use Rattle.reader.specs.Sizes.{maxSection}
 use Rattle.reader.specs.declared.endianity.RunTimeEndian.{RunTimeEndian}
 use Rattle.abbrev.specs.Table.{Limit, Declaration, abbreviationsAt}
 use Rattle.unit.specs.Header.{sizeOfHeader}
-use Rattle.unit.specs.Parse.{debugInfo, headerAt}
+use Rattle.unit.specs.Parse.{UnitSection, headerAt}
 use Rattle.unit.specs.Range.{entriesBuf, rangeFrom}
 use Rattle.unit.specs.declared.header.UnitHeader.{UnitHeader}
 use Rattle.entries.specs.Cursor.{Cursor, newCursor, openedCursor, noCursor}
@@ -71,19 +71,19 @@ orNoUnit most e (refused n) = record { answer = refused n; cursor = noCursor mos
 
 -- 01, question 1, of both sections and before all reading
 abbrev pub sectionsKept : List ℕ → List ℕ → Bool
-sectionsKept abbrevs info = leb (length abbrevs) maxSection && leb (length info) maxSection
+sectionsKept abbrevs units = leb (length abbrevs) maxSection && leb (length units) maxSection
 
-module _ (abbrevs info : List ℕ) (offset : ℕ) (e : RunTimeEndian) (l : Limit) (rows free : ℕ) where
+module _ (sec : UnitSection) (abbrevs units : List ℕ) (offset : ℕ) (e : RunTimeEndian) (l : Limit) (rows free : ℕ) where
   -- the table that the header at an offset points to, in so many rows
   unfoldable pub ownTable : Answer (List Declaration)
   ownTable =
-      judged (sectionsKept abbrevs info)
-      (andThen (headerAt debugInfo info offset e)
+      judged (sectionsKept abbrevs units)
+      (andThen (headerAt sec units offset e)
       (λ h. abbreviationsAt abbrevs (h .value .«debug_abbrev_offset») l rows free))
 
   -- the header there and a cursor over its entries, once its table was read
   unfoldable pub unitFrom : Answer OwnUnit
   unitFrom =
-      judged (sectionsKept abbrevs info)
-      (andThen (headerAt debugInfo info offset e)
+      judged (sectionsKept abbrevs units)
+      (andThen (headerAt sec units offset e)
       (λ h. andThen (abbreviationsAt abbrevs (h .value .«debug_abbrev_offset») l rows free) (λ t. got (ownUnit (l .most) (h .value) e))))

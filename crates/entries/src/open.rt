@@ -10,6 +10,7 @@ ghost use Rattle.reader.specs.Errors.{numberOf};
 ghost use Rattle.entries.specs.Opened.{Opened as OpenedAs};
 ghost use Rattle.entries.specs.Views.{viewCursor, viewOpened, viewOpenedCursor, viewEntryAt, viewOpenedUnit};
 ghost use Rattle.unit.specs.Header.{sizeOfHeader};
+ghost use Rattle.unit.specs.Parse.{debugInfo, sectionOf};
 use super::cursor::EntriesCursor;
 use super::cursor::OpenedCursor;
 use super::cursor::no_cursor;
@@ -27,7 +28,8 @@ use reader::endianity::RunTimeEndian;
 use reader::error::Error;
 use unit::header::UnitHeader;
 use unit::parse::Header;
-use unit::units::DebugInfo;
+use unit::parse::SectionId;
+use unit::parse::parse_header;
 
 // The entry is a null at offset and depth 0 after a refusal.
 pub struct EntryAt {
@@ -177,24 +179,25 @@ fn refuse_unit(error: Error, endian: RunTimeEndian) -> OpenedUnit
     }
 }
 
-// The unit at an offset of .debug_info, with the table that its own header points to in the lent
+// The unit at an offset of a section, with the table that its own header points to in the lent
 // rows: they are zero after a refusal, so that no unit is read with another one's table. The header is
 // read once both sections are known to be short enough; of its own section it asks that itself.
-pub fn open_unit(
-    info: &[u8],
+pub fn open_unit_in(
+    id: SectionId,
+    units: &[u8],
     offset: u64,
     abbrevs: &[u8],
     endian: RunTimeEndian,
     rows: &mut [u64],
     specs: &mut [u64],
 ) -> OpenedUnit
-    ensures { λ r. ⌜ OpenedAs (now (abbrevs .entry)) (now (info .entry)) offset endian (now (rows .entry)) (now (specs .entry)) (now (rows .exit)) (now (specs .exit)) r ⌝ }
+    ensures { λ r. ⌜ OpenedAs (sectionOf id) (now (abbrevs .entry)) (now (units .entry)) offset endian (now (rows .entry)) (now (specs .entry)) (now (rows .exit)) (now (specs .exit)) r ⌝ }
 {
     if MAX_SECTION < abbrevs.len() {
         wipe(rows, specs);
         return refuse_unit(Error::SizeLimit, endian);
     }
-    match DebugInfo::header_from_offset(info, offset, endian) {
+    match parse_header(id, units, offset as usize, endian) {
         Header::Got(header, _) => match header.abbreviations(abbrevs, rows, specs) {
             Abbreviations::Got(_) => {
                 let cursor = at_root(header, endian);
@@ -210,4 +213,26 @@ pub fn open_unit(
             refuse_unit(e, endian)
         }
     }
+}
+
+// The unit at an offset of .debug_info.
+pub fn open_unit(
+    info: &[u8],
+    offset: u64,
+    abbrevs: &[u8],
+    endian: RunTimeEndian,
+    rows: &mut [u64],
+    specs: &mut [u64],
+) -> OpenedUnit
+    ensures { λ r. ⌜ OpenedAs debugInfo (now (abbrevs .entry)) (now (info .entry)) offset endian (now (rows .entry)) (now (specs .entry)) (now (rows .exit)) (now (specs .exit)) r ⌝ }
+{
+    open_unit_in(
+        SectionId::DebugInfo,
+        info,
+        offset,
+        abbrevs,
+        endian,
+        rows,
+        specs,
+    )
 }

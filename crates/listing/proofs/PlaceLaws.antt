@@ -10,10 +10,13 @@ use lib.Dec.{eqb}
 use lib.IntN.{ℤ, pos}
 use lib.ListN.{length, drop}
 use Rattle.reader.specs.Answer.{Answer, got, refused}
+use Rattle.reader.specs.declared.endianity.RunTimeEndian.the-variants.{Little}
 use Rattle.abbrev.specs.Rows.{tableRows, tableSpecs}
 use Rattle.abbrev.specs.Table.{Declaration, entryLimit, abbreviationsAt}
 use Rattle.unit.specs.Header.{sizeOfHeader}
+use Rattle.unit.specs.Parse.{debugInfo}
 use Rattle.unit.specs.declared.header.UnitHeader.{UnitHeader}
+use Rattle.unit.proofs.UnitsLaws.{unit-in, size-some}
 use Rattle.entries.specs.Cursor.{itemNext}
 use Rattle.entries.specs.Flat.{Item, Reading}
 use Rattle.entries.specs.Raw.{movedTo, sourceOf}
@@ -30,7 +33,7 @@ use Rattle.listing.specs.Text.{refusedLine}
 use Rattle.listing.specs.declared.place.ListingPlace.{ListingPlace}
 use Rattle.listing.proofs.ListLaws.{starts}
 use Rattle.listing.proofs.PartLaws.{state-there, state-in, state-kept}
-use Rattle.listing.proofs.UnitLaws.{unit-in, size-some, answerAt, behind as behindUnit, unitsBy, further-unit, units-step, inner-unit, inner-none, inner-refused}
+use Rattle.listing.proofs.UnitLaws.{answerAt, behind as behindUnit, unitsBy, further-unit, units-step, inner-unit, inner-none, inner-refused}
 
 module _ (x : Shelf) where
   -- the listing from each line's place on is that line and those behind it
@@ -177,7 +180,7 @@ module _ (x : Shelf) where
       by (got (some h)) q = (here q, entries-lead at h q (f h q) (placeIn at (sizeOfHeader h) (pos 0)) refl (size-some h))
 
   units-lead : (n at : ℕ) → length (x .info) ≤ n + at → Leads (unitLines x at)
-  units-lead zero at l = unit-lead at (λ h e. absurd (omega (arith, further-unit x at h e, unit-in (x .info) at e .there)))
+  units-lead zero at l = unit-lead at (λ h e. absurd (omega (arith, further-unit x at h e, unit-in debugInfo (x .info) at Little e .there)))
   units-lead (suc n) at l = unit-lead at (λ h e. units-lead n (behindUnit x at) (omega (arith, further-unit x at h e)))
 
   -- from a place in the middle of a unit on

@@ -19,12 +19,13 @@ use Rattle.abbrev.specs.Lookup.{Found, lookup}
 use Rattle.abbrev.specs.Rows.{Row, rowsFrom, Laid, tableRows, tableSpecs}
 use Rattle.abbrev.specs.Table.{Declaration}
 use Rattle.abbrev.proofs.Bounds.{Sound}
-use Rattle.abbrev.proofs.Lookups.{lookup-same}
+use Rattle.abbrev.proofs.Lookups.{lookup-in-order}
 use Rattle.unit.specs.Header.{sizeOfHeader, unitEnd}
-use Rattle.unit.specs.Parse.{debugInfo, headerAt}
-use Rattle.unit.specs.Units.{Advanced, advanced, nextUnit}
+use Rattle.unit.specs.Parse.{debugInfo}
+use Rattle.unit.specs.Units.{nextUnit}
 use Rattle.unit.specs.declared.header.UnitHeader.{UnitHeader}
-use Rattle.unit.proofs.ParseLaws.{HeaderIn, header-in}
+use Rattle.unit.proofs.UnitsLaws.{unit-in, unit-further}
+use Rattle.entries.proofs.SameLaws.{entry-same}
 use Rattle.entries.specs.Entry.{Entry}
 use Rattle.entries.specs.Flat.{Reading, nothing, before, readOn, readWithin, readFrom, never}
 use Rattle.entries.specs.Raw.{sourceOf}
@@ -41,20 +42,6 @@ use Rattle.listing.proofs.PieceLaws.{added-in, written-in}
 -- ---- tables: whichever row holds which declaration, the lines are the same
 
 module _ (most : ℕ) (src : Source) (s rows rows' specs : List ℕ) (h : (c : ℕ) → lookup most rows specs c ≡ lookup most rows' specs c) where
-  code-same : (at : ℕ) → abbreviationAt most s rows specs at ≡ abbreviationAt most s rows' specs at
-  unfolding abbreviationAt
-  code-same at = go (ulebAt s at 64)
-    where
-      go : (r : Answer (Read ℕ))
-          → andThen r (λ v. cond (eqb (v .value) 0) (gives none (v .next)) (known (lookup most rows specs (v .value)) (v .next)))
-          ≡ andThen r (λ v. cond (eqb (v .value) 0) (gives none (v .next)) (known (lookup most rows' specs (v .value)) (v .next)))
-      go (got v) = ap (λ (x : Answer (Option Found)). cond (eqb (v .value) 0) (gives none (v .next)) (known x (v .next))) (h (v .value))
-      go (refused n) = refl
-
-  entry-same : (at : ℕ) (d : ℤ) → entryAt most src s rows specs at d ≡ entryAt most src s rows' specs at d
-  unfolding entryAt
-  entry-same at d = ap (λ (r : Answer (Read (Option Found))). andThen r (entryAfter most src s specs at d)) (code-same at)
-
   on-same : (n at : ℕ) (d : ℤ) → ((at : ℕ) (d : ℤ) → readWithin most src s rows specs never n at d ≡ readWithin most src s rows' specs never n at d)
       → (r : Answer (Read Entry)) → readOn never at d (λ i. readWithin most src s rows specs never n (i .next) (afterEntry (i .value))) r ≡ readOn never at d (λ i. readWithin most src s rows' specs never n (i .next) (afterEntry (i .value))) r
   on-same n at d f (got i) = ap (before i) (f (i .next) (afterEntry (i .value)))
@@ -66,72 +53,24 @@ module _ (most : ℕ) (src : Source) (s rows rows' specs : List ℕ) (h : (c : �
   within-same (suc n) at d =
       ap (cond (leb (length s) at) nothing)
       (on-same n at d (λ a e. within-same n a e) (entryAt most src s rows specs at d)
-      ∙ ap (readOn never at d (λ i. readWithin most src s rows' specs never n (i .next) (afterEntry (i .value)))) (entry-same at d))
-
-perm-same : (l : List Row) → List·Permᴰ l l
-perm-same [] = List·Permᴰ·nil
-perm-same (r ∷ l) = List·Permᴰ·cons refl (perm-same l)
-
--- the table in file order is one that the table call may leave
-in-order : {m k : ℕ} {rows specs : List ℕ} {t : List Declaration} → Laid m k rows specs t → Laid m k (tableRows m t) specs t
-in-order {t = t} L = record { rowChoice = rowsFrom 0 t; all = perm-same (rowsFrom 0 t); rows-are = refl; specs-are = L .specs-are }
+      ∙ ap (readOn never at d (λ i. readWithin most src s rows' specs never n (i .next) (afterEntry (i .value)))) (entry-same most src s rows rows' specs h at d))
 
 pub laid-lines : {m k : ℕ} {rows specs : List ℕ} {t : List Declaration} (most unit : ℕ) (w : EntriesRaw) (s : List ℕ) → Sound most t → Laid m k rows specs t
     → (rest : List Placed) → itemLines most unit w s rows specs rest ≡ itemLines most unit w s (tableRows m t) (tableSpecs k t) rest
 unfolding itemLines readFrom
 laid-lines {m} {k} {rows} {specs} {t} most unit w s S L rest =
     ap (λ (r : Reading). readLines unit (w .start) r rest)
-    (within-same most (sourceOf w) s rows (tableRows m t) specs (lookup-same most S L (in-order L)) (length s - w .position) (w .position) (w .depth)
+    (within-same most (sourceOf w) s rows (tableRows m t) specs (lookup-in-order most S L) (length s - w .position) (w .position) (w .depth)
     ∙ ap (λ (x : List ℕ). readWithin most (sourceOf w) s (tableRows m t) x never (length s - w .position) (w .position) (w .depth)) (L .specs-are))
 
 -- ---- units
 
--- a unit of the list: its header was read, it lies in the section, and the list goes on behind it
-pub record UnitIn (info : List ℕ) (at : ℕ) (h : UnitHeader) (next : ℕ) : Type 0 where
-  pub offset : h .offset ≡ at
-  pub short : length info ≤ maxSection
-  pub next-is : next ≡ at + unitEnd h
-  pub there : next ≤ length info
-  pub header : sizeOfHeader h ≤ unitEnd h
-
-abbrev Listed : List ℕ → ℕ → Advanced → Option UnitHeader → Type 0
-Listed info at r none = Unit {0}
-Listed info at r (some h) = UnitIn info at h (r .offset)
-
-next-in : (info : List ℕ) (at : ℕ) → Holds (Listed info at (nextUnit info at Little)) (nextUnit info at Little .answer)
-unfolding nextUnit
-next-in info at = by-size (leb (length info) maxSection && leb at (length info)) refl
-  where
-    of-header : length info ≤ maxSection → (r : Answer (Read UnitHeader)) → Holds (HeaderIn info at) r → Holds (Listed info at (advanced info at r)) (advanced info at r .answer)
-    of-header l (got r) z =
-        record { offset = z .offset; short = l; next-is = refl; there = z .there; header = omega (arith, z .start, z .inside) }
-    of-header l (refused n) z = tt
-
-    by-end : length info ≤ maxSection → (b : Bool)
-        → Holds (Listed info at (cond b (record { answer = got none; offset = at }) (advanced info at (headerAt debugInfo info at Little))))
-        (cond b (record { answer = got none; offset = at }) (advanced info at (headerAt debugInfo info at Little)) .answer)
-    by-end l true = tt
-    by-end l false = of-header l (headerAt debugInfo info at Little) (header-in debugInfo info at Little)
-
-    by-size : (b : Bool) → leb (length info) maxSection && leb at (length info) ≡ b
-        → Holds (Listed info at (cond b (cond (eqb (length info) at) (record { answer = got none; offset = at }) (advanced info at (headerAt debugInfo info at Little))) (record { answer = refused 1; offset = at })))
-        (cond b (cond (eqb (length info) at) (record { answer = got none; offset = at }) (advanced info at (headerAt debugInfo info at Little))) (record { answer = refused 1; offset = at }) .answer)
-    by-size true q = by-end (leb-true _ _ (both (leb (length info) maxSection) (leb at (length info)) q .0)) (eqb (length info) at)
-    by-size false q = tt
-
-pub unit-in : (info : List ℕ) (at : ℕ) {h : UnitHeader} → nextUnit info at Little .answer ≡ got (some h) → UnitIn info at h (nextUnit info at Little .offset)
-unit-in info at e = rw e at (next-in info at)
-
-pub size-some : (h : UnitHeader) → 0 < sizeOfHeader h
-unfolding sizeOfHeader
-size-some h = omega arith
-
 module _ (x : Shelf) where
   abbrev pub answerAt : ℕ → Answer (Option UnitHeader)
-  answerAt at = nextUnit (x .info) at Little .answer
+  answerAt at = nextUnit debugInfo (x .info) at Little .answer
 
   abbrev pub behind : ℕ → ℕ
-  behind at = nextUnit (x .info) at Little .offset
+  behind at = nextUnit debugInfo (x .info) at Little .offset
 
   -- what follows the list's answer, with the lines of the other units
   abbrev pub unitsBy : (ℕ → List Placed) → ℕ → Option UnitHeader → List Placed
@@ -146,14 +85,14 @@ module _ (x : Shelf) where
       go (refused n) q = refl
 
   pub further-unit : (at : ℕ) (h : UnitHeader) → answerAt at ≡ got (some h) → at < behind at
-  further-unit at h e = let z = unit-in (x .info) at e in omega (arith, z .next-is, z .header, size-some h)
+  further-unit at h e = unit-further debugInfo (x .info) at Little e
 
   -- the definition without its count
   pub units-step : (at : ℕ) → unitLines x at ≡ orStop (placeOf at) (answerAt at) (unitsBy (unitLines x) at)
   unfolding unitLines unitsWithin
   units-step at =
       without-count (λ (a : ℕ). suc (length (x .info) - a)) (λ f a. orStop (placeOf a) (answerAt a) (unitsBy f a)) (unitsWithin x) (λ n a. refl)
-      (λ f g a h. same-by f g a (λ u e. h (behind a) (omega (arith, further-unit a u e, unit-in (x .info) a e .there))))
+      (λ f g a h. same-by f g a (λ u e. h (behind a) (omega (arith, further-unit a u e, unit-in debugInfo (x .info) a Little e .there))))
       (λ f a e. absurd (omega (arith, e))) at
 
 -- as many lent words, the same lines

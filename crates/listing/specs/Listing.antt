@@ -11,6 +11,7 @@ use Rattle.reader.specs.declared.endianity.RunTimeEndian.the-variants.{Little}
 use Rattle.abbrev.specs.Rows.{tableRows, tableSpecs}
 use Rattle.abbrev.specs.Table.{entryLimit, abbreviationsAt}
 use Rattle.unit.specs.Header.{sizeOfHeader}
+use Rattle.unit.specs.Parse.{debugInfo}
 use Rattle.unit.specs.Range.{unitBytes, entriesBuf}
 use Rattle.unit.specs.Units.{nextUnit}
 use Rattle.unit.specs.declared.header.UnitHeader.{UnitHeader}
@@ -113,8 +114,8 @@ unitAll x at h rest = put (placeOf at) (headLine h) ∷ unitEntries x h (placeIn
 unfoldable pub unitsWithin : Shelf → ℕ → ℕ → List Placed
 unitsWithin x zero at = []
 unitsWithin x (suc n) at =
-    orStop (placeOf at) (nextUnit (x .info) at Little .answer)
-    (λ o. ifSome o (put (placeOf at) endLine ∷ []) (λ h. unitAll x at h (unitsWithin x n (nextUnit (x .info) at Little .offset))))
+    orStop (placeOf at) (nextUnit debugInfo (x .info) at Little .answer)
+    (λ o. ifSome o (put (placeOf at) endLine ∷ []) (λ h. unitAll x at h (unitsWithin x n (nextUnit debugInfo (x .info) at Little .offset))))
 
 -- each takes a byte, so that the bytes run out first (`units-step`)
 unfoldable pub unitLines : Shelf → ℕ → List Placed
@@ -123,8 +124,8 @@ unitLines x at = unitsWithin x (suc (length (x .info) - at)) at
 -- from the middle of a unit on; a place where no unit is, is refused with 1
 unfoldable pub innerLines : Shelf → ListingPlace → List Placed
 innerLines x p =
-    orStop p (nextUnit (x .info) (p .unit) Little .answer)
-    (λ o. ifSome o (put p (refusedLine 1) ∷ []) (λ h. unitEntries x h p (unitLines x (nextUnit (x .info) (p .unit) Little .offset))))
+    orStop p (nextUnit debugInfo (x .info) (p .unit) Little .answer)
+    (λ o. ifSome o (put p (refusedLine 1) ∷ []) (λ h. unitEntries x h p (unitLines x (nextUnit debugInfo (x .info) (p .unit) Little .offset))))
 
 -- the listing from a place on; the whole is that from `placeOf 0` on
 unfoldable pub listingFrom : Shelf → ListingPlace → List Placed

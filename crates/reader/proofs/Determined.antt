@@ -32,6 +32,7 @@ errors =
     ∷ error.OffsetOutOfBounds
     ∷ error.NoEntryAtGivenOffset
     ∷ error.InvalidTreeLevel
+    ∷ error.MissingTypeUnit
     ∷ []
 
 number-back : (e : Error) → getD errors (numberOf e - 1) error.SizeLimit ≡ e
@@ -57,6 +58,7 @@ number-back error.InvalidImplicitConst = refl
 number-back error.OffsetOutOfBounds = refl
 number-back error.NoEntryAtGivenOffset = refl
 number-back error.InvalidTreeLevel = refl
+number-back error.MissingTypeUnit = refl
 
 -- two refusals with one number are the same
 pub number-injective : (a b : Error) → numberOf a ≡ numberOf b → a ≡ b
@@ -85,3 +87,4 @@ number-some error.InvalidImplicitConst = omega arith
 number-some error.OffsetOutOfBounds = omega arith
 number-some error.NoEntryAtGivenOffset = omega arith
 number-some error.InvalidTreeLevel = omega arith
+number-some error.MissingTypeUnit = omega arith

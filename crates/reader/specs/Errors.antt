@@ -3,7 +3,7 @@ use Prim.Native.Nat.{ℕ}
 use Rattle.reader.specs.declared.error.Error.{Error}
 use Rattle.reader.specs.declared.error.Error.the-variants as error
 
--- the number of the question of document 01, "Questions at the counter", that was answered no
+-- the number of the question that was answered no: of document 01, "Questions at the counter", up to 21; those above are document 02's
 abbrev pub numberOf : Error → ℕ
 numberOf error.SizeLimit = 1
 numberOf error.UnexpectedEof = 2
@@ -26,3 +26,4 @@ numberOf error.InvalidImplicitConst = 18
 numberOf error.OffsetOutOfBounds = 19
 numberOf error.NoEntryAtGivenOffset = 20
 numberOf error.InvalidTreeLevel = 21
+numberOf error.MissingTypeUnit = 22

@@ -1,4 +1,4 @@
-// Refusals, one for each of document 01's questions 1 to 21.
+// Refusals: one for each of document 01's questions 1 to 21, then those that requests add.
 
 ghost use mathlib.Core.Path.{_≡_};
 ghost use Rattle.reader.specs.Errors.{numberOf};
@@ -46,10 +46,12 @@ pub enum Error {
     NoEntryAtGivenOffset,
     // 21: the tree has no root, or the level is not 1 to its entry's depth plus 1
     InvalidTreeLevel,
+    // 22: no unit of .debug_types has the signature
+    MissingTypeUnit,
 }
 
 impl Error {
-    // Document 01's number.
+    // The number of the question.
     pub fn number(self) -> u64
         ensures { λ r. ⌜ r ≡ numberOf self ⌝ }
     {
@@ -75,6 +77,7 @@ impl Error {
             Error::OffsetOutOfBounds => 19,
             Error::NoEntryAtGivenOffset => 20,
             Error::InvalidTreeLevel => 21,
+            Error::MissingTypeUnit => 22,
         }
     }
 }

@@ -11,6 +11,7 @@ use Rattle.reader.specs.declared.common.Encoding.{Encoding}
 use Rattle.reader.specs.declared.endianity.RunTimeEndian.{RunTimeEndian}
 use Rattle.reader.specs.declared.endianity.RunTimeEndian.the-variants.{Little}
 use Rattle.abbrev.specs.Table.{Specification}
+use Rattle.unit.specs.Parse.{debugInfo}
 use Rattle.unit.specs.Units.{nextUnit}
 use Rattle.unit.specs.declared.header.UnitHeader.{UnitHeader}
 use Rattle.attribute.specs.Read.{attributesAt}
@@ -68,7 +69,7 @@ pub record Ends (s : List ℕ) (c : Encoding) (x : Specification) (read skipped 
 abbrev pub Holds-reading : Reading → Type 0
 Holds-reading (unsigned w s r) = ulebAt s 0 w ≡ whole s r
 Holds-reading (signed w s r) = slebAt s 0 w ≡ whole s r
-Holds-reading (firstUnit s r) = nextUnit s 0 Little ≡ record { answer = r; offset = length s }
+Holds-reading (firstUnit s r) = nextUnit debugInfo s 0 Little ≡ record { answer = r; offset = length s }
 Holds-reading (value w f s read skipped) = (c : Encoding) (x : Specification) → Ends s (ofWidth w c) (ofForm f x) read skipped
 
 -- it holds of each

@@ -14,6 +14,8 @@ use capi::tables::tehkumir_abbreviations;
 use capi::tables::tehkumir_get;
 use capi::units::tehkumir_entry;
 use capi::units::tehkumir_next_unit;
+use capi::units::tehkumir_type_entry;
+use capi::units::tehkumir_types_next_unit;
 use capi::units::tehkumir_unit_header;
 use capi::values::tehkumir_read_attribute;
 
@@ -52,10 +54,11 @@ fn call_reader(kind: u64, numbers: &[u64; 10], bytes: &[u8], out: &mut [u64]) ->
 fn call_unit(kind: u64, numbers: &[u64; 10], section: &[u8], out: &mut [u64]) -> u64 {
     let at = numbers[0];
     let is_big = flag(numbers[1]);
-    if kind == 6 {
-        return tehkumir_unit_header(section, at, is_big, out);
+    match kind {
+        6 => tehkumir_unit_header(section, at, is_big, out),
+        7 => tehkumir_next_unit(section, at as usize, is_big, out),
+        _ => tehkumir_types_next_unit(section, at as usize, is_big, out),
     }
-    tehkumir_next_unit(section, at as usize, is_big, out)
 }
 
 fn call_value(numbers: &[u64; 10], bytes: &[u8], out: &mut [u64]) -> u64 {
@@ -205,7 +208,7 @@ fn call_on_rows(
     }
 }
 
-// What fills or reads rows; for the latter the abbreviation section's table fills them.
+// What fills or reads rows; for the latter the abbreviation section's first table fills them.
 fn call_with_rows(
     kind: u64,
     numbers: &[u64; 10],
@@ -220,6 +223,11 @@ fn call_with_rows(
     if kind == 9 {
         let offset = numbers[0];
         return tehkumir_abbreviations(bytes, offset, &mut rows, &mut specs, out);
+    }
+    if kind == 17 {
+        let signature = numbers[0];
+        let is_big = flag(numbers[1]);
+        return tehkumir_type_entry(bytes, table, signature, is_big, &mut rows, &mut specs, out);
     }
     tehkumir_abbreviations(table, 0, &mut rows, &mut specs, out);
     call_on_rows(kind, numbers, bytes, &rows, &specs, calls, levels, out)
@@ -237,7 +245,7 @@ pub fn call(
 ) -> u64 {
     match kind {
         0..=5 => call_reader(kind, numbers, bytes, out),
-        6 | 7 => call_unit(kind, numbers, bytes, out),
+        6 | 7 | 16 => call_unit(kind, numbers, bytes, out),
         11 => call_value(numbers, bytes, out),
         _ => call_with_rows(kind, numbers, bytes, table, calls, levels, out),
     }

@@ -10,8 +10,8 @@ use reader::words::read_u8;
 use reader::words::read_u32;
 use reader::words::read_u64;
 
-// The kinds are 0 to 14.
-pub const KINDS: u64 = 16;
+// The kinds are 0 to 17.
+pub const KINDS: u64 = 18;
 
 // The most bytes of a case.
 pub const MOST_BYTES: u64 = 16000;

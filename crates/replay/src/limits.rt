@@ -12,7 +12,7 @@ fn limits(kind: u64) -> [u64; 10] {
     match kind {
         0..=3 | 9 | 10 => [WORD, 0, 0, 0, 0, 0, 0, 0, 0, 0],
         4 => [WORD, BYTE, FLAG, 0, 0, 0, 0, 0, 0, 0],
-        5..=7 => [WORD, FLAG, 0, 0, 0, 0, 0, 0, 0, 0],
+        5..=7 | 16 | 17 => [WORD, FLAG, 0, 0, 0, 0, 0, 0, 0, 0],
         8 => [WORD, WORD, FLAG, 0, 0, 0, 0, 0, 0, 0],
         11 => [WORD, WORD, HALF, FLAG, BYTE, FLAG, HALF, HALF, WORD, 0],
         _ => [WORD, HALF, FLAG, BYTE, FLAG, 0, 0, 0, 0, 0],

@@ -7,7 +7,7 @@ use std::num::wrapping_add_u64;
 pub struct Tally {
     pub cases: u64,
     pub differences: u64,
-    pub kinds: [u64; 16],
+    pub kinds: [u64; 18],
     pub is_ended: bool,
 }
 
@@ -36,12 +36,14 @@ fn name(kind: u64) {
         12 => text(b"raw"),
         13 => text(b"cursor"),
         14 => text(b"tree"),
-        _ => text(b"raw_lent"),
+        15 => text(b"raw_lent"),
+        16 => text(b"types_next_unit"),
+        _ => text(b"type_entry"),
     }
 }
 
 // A line for each kind.
-fn say_kinds(kinds: &[u64; 16]) {
+fn say_kinds(kinds: &[u64; 18]) {
     let mut kind: u64 = 0;
     while kind < KINDS {
         name(kind);
@@ -59,7 +61,7 @@ fn say_difference(case: u64) {
 }
 
 // One case more of a kind; `KINDS` where the case has none.
-fn one_more(kinds: [u64; 16], kind: u64) -> [u64; 16] {
+fn one_more(kinds: [u64; 18], kind: u64) -> [u64; 18] {
     let mut more = kinds;
     if kind < KINDS {
         let at = kind as usize;
@@ -74,7 +76,7 @@ impl Tally {
         Tally {
             cases: 0,
             differences: 0,
-            kinds: [0u64; 16],
+            kinds: [0u64; 18],
             is_ended: false,
         }
     }

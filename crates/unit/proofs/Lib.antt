@@ -2,3 +2,5 @@
 pub mod HeaderLaws
 pub mod ParseLaws
 pub mod RangeLaws
+pub mod SectionLaws
+pub mod UnitsLaws

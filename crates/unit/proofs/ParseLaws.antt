@@ -19,10 +19,12 @@ use Rattle.reader.proofs.Answers.{holds-then, cond-by}
 use Rattle.reader.proofs.FieldLaws.{initial-in, skip-in}
 use Rattle.reader.proofs.WordLaws.{WordIn, word-in}
 use Rattle.unit.specs.Header.{typeNumber, typeSize, sizeOfHeader, unitEnd}
-use Rattle.unit.specs.Parse.{UnitSection, Common, signatureAt, typeAt, olderAt, typedAt, newerAt, commonAt, restAt, bodyAt, headerAt}
+use Rattle.unit.specs.Parse.{UnitSection, twoToFive, sectionOf, Common, signatureAt, typeAt, olderAt, typedAt, newerAt, commonAt, restAt, bodyAt, headerAt}
 use Rattle.unit.specs.declared.header.UnitHeader.{UnitHeader}
 use Rattle.unit.specs.declared.header.UnitType.{UnitType}
 use Rattle.unit.specs.declared.header.UnitType.the-variants.{Compilation, «Type», Partial, Skeleton, SplitCompilation, SplitType}
+use Rattle.unit.specs.declared.parse.SectionId.{SectionId}
+use Rattle.unit.specs.declared.parse.SectionId.the-variants as section
 
 -- the two types with a signature, the two with a dwo_id, and no others
 module _ (s : List ℕ) (at : ℕ) (f : Format) (e : RunTimeEndian) where
@@ -39,6 +41,13 @@ module _ (s : List ℕ) (at : ℕ) (f : Format) (e : RunTimeEndian) where
   pub type-unknown : (n : ℕ) → (n ≡ 1 → ⊥) → (n ≡ 2 → ⊥) → (n ≡ 3 → ⊥) → (n ≡ 4 → ⊥) → (n ≡ 5 → ⊥) → (n ≡ 6 → ⊥) → typeAt s at n f e ≡ refused 8
   unfolding typeAt
   type-unknown n a b c d x y = rw (ne-eqb n 1 a, ne-eqb n 2 b, ne-eqb n 3 c, ne-eqb n 4 d, ne-eqb n 5 x, ne-eqb n 6 y)
+
+-- ---- sections
+
+-- every section lets the versions 2 to 5 in
+pub judge-is : (id : SectionId) (version : ℕ) (f : Format) → sectionOf id .judge version f ≡ twoToFive version f
+judge-is section.DebugInfo version f = refl
+judge-is section.DebugTypes version f = refl
 
 -- ---- where the parts of a header end
 

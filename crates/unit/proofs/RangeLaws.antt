@@ -1,18 +1,20 @@
 -- Laws of parts of a unit.
-use mathlib.Core.Bool.{cond, and-false, _&&_}
+use mathlib.Core.Bool.{true, cond, and-false, _&&_}
 use mathlib.Core.Logic.{⊎-elim}
 use mathlib.Core.Path.{refl, sym, ap, subst, _≡_, _∙_}
 use mathlib.Core.List.{List}
 use Prim.Native.Nat.{ℕ, _+_, _-_, _≤_, _<_}
 use native.Mathlib.Omega.{arith}
-use borrow.Author.Tests.{le-leb, lt-leb}
-use lib.Dec.{leb}
-use lib.ListN.{length, take, drop}
+use borrow.Author.Tests.{le-leb, lt-leb, ltb-true}
+use lib.Dec.{leb, ltb}
+use lib.ListN.{length, take, drop, length-drop}
+use lib.Seq.{take-all}
 use Rattle.reader.specs.Answer.{Answer, got, refused, Read, Holds}
 use Rattle.reader.specs.Sizes.{maxSection}
 use Rattle.reader.specs.declared.endianity.RunTimeEndian.{RunTimeEndian}
 use Rattle.reader.proofs.Answers.{cond-by}
 use Rattle.reader.proofs.Numbers.{lt-or-le}
+use Rattle.abbrev.proofs.Lookups.{both}
 use Rattle.unit.specs.Header.{sizeOfHeader, unitEnd, inBounds}
 use Rattle.unit.specs.Parse.{UnitSection, headerAt}
 use Rattle.unit.specs.Range.{part, Handed, unitBytes, entriesBuf, rangeFrom}
@@ -74,12 +76,32 @@ pub from-19 : (h : UnitHeader) (u : List ℕ) (a : ℕ) → Or19 (rangeFrom h u 
 unfolding rangeFrom
 from-19 h u a = cond-by Or19 (inBounds h a) _ _ (λ _. part-19 u a (unitEnd h)) (λ _. refl)
 
--- and so does a header's own section
-pub bytes-19 : (sec : UnitSection) (s : List ℕ) (at : ℕ) (e : RunTimeEndian) {r : Read UnitHeader} → headerAt sec s at e ≡ got r → Or19 (unitBytes (r .value) s)
+-- and so does a section that keeps the sizes
+pub short-19 : (h : UnitHeader) (s : List ℕ) → length s ≤ maxSection → Or19 (unitBytes h s)
 unfolding unitBytes
+short-19 h s k = rw (le-leb (length s) maxSection k) (part-19 s (h .offset) (h .offset + unitEnd h))
+
+-- as that of a header does
+pub bytes-19 : (sec : UnitSection) (s : List ℕ) (at : ℕ) (e : RunTimeEndian) {r : Read UnitHeader} → headerAt sec s at e ≡ got r → Or19 (unitBytes (r .value) s)
 bytes-19 sec s at e {r} q =
     let h : Holds (HeaderIn s at) (got r) = subst (λ (x : Answer (Read UnitHeader)). Holds (HeaderIn s at) x) q (header-in sec s at e) in
-    rw (le-leb (length s) maxSection (h .short)) (part-19 s (r .value .offset) (r .value .offset + unitEnd (r .value)))
+    short-19 (r .value) s (h .short)
+
+-- the bytes of a unit that lies in its section
+pub bytes-there : (h : UnitHeader) (s : List ℕ) → length s ≤ maxSection → h .offset + unitEnd h ≤ length s → unitBytes h s ≡ got (take (unitEnd h) (drop (h .offset) s))
+unfolding unitBytes
+bytes-there h s k there =
+    let n : h .offset + unitEnd h - h .offset ≡ unitEnd h = omega arith in
+    rw (le-leb (length s) maxSection k, part-there s (h .offset) (h .offset + unitEnd h) (omega arith) there, n)
+
+-- and from an offset inside on
+pub from-there : (h : UnitHeader) (u : List ℕ) (offset : ℕ) → length u ≡ unitEnd h → inBounds h offset ≡ true → rangeFrom h u offset ≡ got (drop offset u)
+unfolding rangeFrom inBounds
+from-there h u offset l b =
+    let k = both (leb (sizeOfHeader h) offset) (ltb offset (unitEnd h)) b in
+    let z = ltb-true offset (unitEnd h) (k .1) in
+    let n : length (drop offset u) ≤ unitEnd h - offset = rw (length-drop offset u) (omega (arith, l)) in
+    rw (b, part-there u offset (unitEnd h) (omega (arith, z)) (omega (arith, l)), take-all (unitEnd h - offset) (drop offset u) n)
 
 -- so the number beside a part is 0 where it was got
 pub handed-got : (d : Answer (List ℕ)) {r : List ℕ} {n : ℕ} → Or19 d → Handed d r n → n ≡ 0 → d ≡ got r

@@ -14,15 +14,30 @@ use Rattle.reader.specs.declared.endianity.RunTimeEndian.the-variants.{Little}
 use Rattle.unit.specs.declared.header.UnitHeader.{UnitHeader}
 use Rattle.unit.specs.declared.header.UnitType.{UnitType}
 use Rattle.unit.specs.declared.header.UnitType.the-variants.{Compilation, «Type», Partial, Skeleton, SplitCompilation, SplitType}
+use Rattle.unit.specs.declared.parse.SectionId.{SectionId}
+use Rattle.unit.specs.declared.parse.SectionId.the-variants as section
 
 -- a section of units: the number of the unit type that it has before version 5, and the refusal of a version in a format, 0 where it is let in
 pub record UnitSection : Type 0 where
   pub older : ℕ
   pub judge : ℕ → Format → ℕ
 
--- .debug_info: compilation units before version 5; 01, question 6: versions 2 to 5
+-- 01, question 6: versions 2 to 5, in either format
+abbrev pub twoToFive : ℕ → Format → ℕ
+twoToFive version format = cond (leb 2 version && leb version 5) 0 6
+
+-- .debug_info: compilation units before version 5
 abbrev pub debugInfo : UnitSection
-debugInfo = record { older = 1; judge = λ version format. cond (leb 2 version && leb version 5) 0 6 }
+debugInfo = record { older = 1; judge = twoToFive }
+
+-- .debug_types (DWARF 4, 7.5.1.2): type units before version 5
+abbrev pub debugTypes : UnitSection
+debugTypes = record { older = 2; judge = twoToFive }
+
+-- the section that the code means
+abbrev pub sectionOf : SectionId → UnitSection
+sectionOf section.DebugInfo = debugInfo
+sectionOf section.DebugTypes = debugTypes
 
 -- DWARF 4, 7.5.1.2; DWARF 5, 7.5.1.3: a type signature and the offset of the type in the unit
 pub record Signature : Type 0 where

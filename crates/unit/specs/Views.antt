@@ -21,6 +21,8 @@ use Rattle.unit.specs.declared.parse.Signature.the-variants as signature
 use Rattle.unit.specs.declared.parse.Typed.{Typed}
 use Rattle.unit.specs.declared.parse.Typed.the-variants as typed
 use Rattle.unit.specs.declared.units.Next.{Next}
+use Rattle.unit.specs.declared.units.NextIn.{NextIn}
+use Rattle.unit.specs.declared.units.NextType.{NextType}
 use Rattle.unit.specs.declared.units.NextUnit.{NextUnit}
 use Rattle.unit.specs.declared.units.NextUnit.the-variants as next-unit
 
@@ -55,3 +57,9 @@ viewNextUnit (next-unit.Refused e) = refused (numberOf e)
 
 abbrev pub viewNext : Next → Advanced
 viewNext n = record { answer = viewNextUnit (n .unit); offset = n .units .offset }
+
+abbrev pub viewNextType : NextType → Advanced
+viewNextType n = record { answer = viewNextUnit (n .unit); offset = n .units .offset }
+
+abbrev pub viewNextIn : NextIn → Advanced
+viewNextIn n = record { answer = viewNextUnit (n .unit); offset = n .offset }

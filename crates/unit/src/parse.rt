@@ -3,7 +3,7 @@
 ghost use mathlib.Core.Bool.{cond};
 ghost use mathlib.Core.Path.{_≡_};
 ghost use Prim.Native.Nat.{_<_};
-ghost use Rattle.unit.specs.Parse.{debugInfo, signatureAt, typeAt, olderAt, typedAt, newerAt, commonAt, restAt, bodyAt, headerAt};
+ghost use Rattle.unit.specs.Parse.{debugInfo, sectionOf, signatureAt, typeAt, olderAt, typedAt, newerAt, commonAt, restAt, bodyAt, headerAt};
 ghost use Rattle.unit.specs.Views.{viewSignature, viewTyped, viewCommon, viewHeader};
 use super::header::UnitHeader;
 use super::header::UnitType;
@@ -22,6 +22,12 @@ use reader::fields::skip;
 use reader::words::read_u8;
 use reader::words::read_u16;
 use reader::words::read_u64;
+
+// The sections that have units.
+pub enum SectionId {
+    DebugInfo,
+    DebugTypes,
+}
 
 // A type signature, the offset of the type, and the next place.
 enum Signature {
@@ -137,8 +143,25 @@ fn parse_newer(s: &[u8], at: usize, format: Format, endian: RunTimeEndian) -> Co
     }
 }
 
-fn parse_common(s: &[u8], at: usize, version: u64, format: Format, endian: RunTimeEndian) -> Common
-    ensures { λ r. ⌜ viewCommon r ≡ commonAt debugInfo (now (s .entry)) at version format endian ⌝ }
+// The number of the unit type that a section has before version 5.
+fn older_type(id: SectionId) -> u64
+    ensures { λ r. ⌜ r ≡ sectionOf id .older ⌝ }
+{
+    match id {
+        SectionId::DebugInfo => 1,
+        SectionId::DebugTypes => 2,
+    }
+}
+
+fn parse_common(
+    id: SectionId,
+    s: &[u8],
+    at: usize,
+    version: u64,
+    format: Format,
+    endian: RunTimeEndian,
+) -> Common
+    ensures { λ r. ⌜ viewCommon r ≡ commonAt (sectionOf id) (now (s .entry)) at version format endian ⌝ }
 {
     if version < 2 {
         return Common::Refused(Error::UnknownVersion);
@@ -149,11 +172,13 @@ fn parse_common(s: &[u8], at: usize, version: u64, format: Format, endian: RunTi
     if version == 5 {
         return parse_newer(s, at, format, endian);
     }
-    parse_older(s, at, 1, format, endian)
+    let older = older_type(id);
+    parse_older(s, at, older, format, endian)
 }
 
 // What follows the version.
 fn parse_rest(
+    id: SectionId,
     s: &[u8],
     at: usize,
     unit_length: u64,
@@ -163,9 +188,9 @@ fn parse_rest(
     endian: RunTimeEndian,
 ) -> Header
     requires { ⌜ version < 65536 ⌝ }
-    ensures { λ r. ⌜ viewHeader r ≡ restAt debugInfo (now (s .entry)) at (record { unit-length = «unit_length»; format = format }) version p endian ⌝ }
+    ensures { λ r. ⌜ viewHeader r ≡ restAt (sectionOf id) (now (s .entry)) at (record { unit-length = «unit_length»; format = format }) version p endian ⌝ }
 {
-    match parse_common(s, p, version, format, endian) {
+    match parse_common(id, s, p, version, format, endian) {
         Common::Got(table, width, number, q) => match parse_unit_type(
             s,
             q,
@@ -197,6 +222,7 @@ fn parse_rest(
 }
 
 fn parse_body(
+    id: SectionId,
     s: &[u8],
     at: usize,
     unit_length: u64,
@@ -204,26 +230,33 @@ fn parse_body(
     p: usize,
     endian: RunTimeEndian,
 ) -> Header
-    ensures { λ r. ⌜ viewHeader r ≡ bodyAt debugInfo (now (s .entry)) at (record { unit-length = «unit_length»; format = format }) p endian ⌝ }
+    ensures { λ r. ⌜ viewHeader r ≡ bodyAt (sectionOf id) (now (s .entry)) at (record { unit-length = «unit_length»; format = format }) p endian ⌝ }
 {
     match read_u16(s, p, endian) {
-        Word::Got(version, q) => parse_rest(s, at, unit_length, version, format, q, endian),
+        Word::Got(version, q) => parse_rest(id, s, at, unit_length, version, format, q, endian),
         Word::Refused(e) => Header::Refused(e),
     }
 }
 
-// The header at a place of .debug_info. Its fields are read inside of the unit's own bytes.
-pub fn parse_unit_header(section: &[u8], at: usize, endian: RunTimeEndian) -> Header
-    ensures { λ r. ⌜ viewHeader r ≡ headerAt debugInfo (now (section .entry)) at endian ⌝ }
+// The header at a place of a section. Its fields are read inside of the unit's own bytes.
+pub fn parse_header(id: SectionId, section: &[u8], at: usize, endian: RunTimeEndian) -> Header
+    ensures { λ r. ⌜ viewHeader r ≡ headerAt (sectionOf id) (now (section .entry)) at endian ⌝ }
 {
     if MAX_SECTION < section.len() {
         return Header::Refused(Error::SizeLimit);
     }
     match read_initial_length(section, at, endian) {
         InitialLength::Got(length, format, p) => match skip(section, p, length) {
-            Place::At(end) => parse_body(&section[..end], at, length, format, p, endian),
+            Place::At(end) => parse_body(id, &section[..end], at, length, format, p, endian),
             Place::Refused(e) => Header::Refused(e),
         },
         InitialLength::Refused(e) => Header::Refused(e),
     }
+}
+
+// The header at a place of .debug_info.
+pub fn parse_unit_header(section: &[u8], at: usize, endian: RunTimeEndian) -> Header
+    ensures { λ r. ⌜ viewHeader r ≡ headerAt debugInfo (now (section .entry)) at endian ⌝ }
+{
+    parse_header(SectionId::DebugInfo, section, at, endian)
 }

@@ -1,5 +1,3 @@
-use Rattle.capi.proofs.OutLaws.{put-then, said, said-by}
-use mathlib.Core.Path.{_∙_}
 use borrow.Author.Needs.{needs}
 use Rattle.capi.proofs.units.tehkumir_next_unit.Statement.{statement}
 use Rattle.capi.proofs.units.tehkumir_next_unit.Tie as tie
@@ -12,21 +10,5 @@ tehkumir-next-unit-spec =
     (λ c κs. search needs)
     (λ c κs. search needs)
     (λ c. search needs)
-    (λ c κs. search needs)
-    (λ c κs. search needs)
-    (λ c κs. search needs)
-    (λ c. search needs)
-    (λ c κs. search needs)
-    (λ c κs. search needs)
-    (λ c. search needs)
-    (λ c κs. search needs)
-    (λ c κs. search needs)
-    (λ c. search needs)
     -- returns
-    (λ c. rw (← c .before .before .before .before .before .before .before .before .before .before .before .before .before .before .before .before .before .before .before .before .before .endian-of .ensures, ← c .before .before .before .before .before .before .before .before .before .before .before .before .before .before .before .before .before .before .before .before .next .ensures, c .before .before .before .before .before .before .before .before .before .before .before .before .before .unit .given .1) (said (put-then (c .before .before .before .before .before .before .before .before .before .before .before .before .before .before .before .before .before .put .ensures) (c .before .before .before .before .before .before .before .before .before .before .before .before .before .before .before .before .before .put .kept .0) (put-then (c .before .before .before .before .before .before .before .before .before .before .put2 .ensures) (c .before .before .before .before .before .before .before .before .before .before .put2 .kept .0) (c .before .before .before .before .before .before .put-header .ensures))) (c .before .before .before .before .before .before .put-header .kept .0 ∙ c .before .before .before .before .before .before .before .before .before .before .put2 .kept .0 ∙ c .before .before .before .before .before .before .before .before .before .before .before .before .before .before .before .before .before .put .kept .0) (c .before .before .clear-words .ensures)))
-    (λ c. search needs)
-    -- returns-2
-    (λ c. rw (← c .before .before .before .before .before .before .before .before .before .before .before .before .before .before .before .before .endian-of .ensures, ← c .before .before .before .before .before .before .before .before .before .before .before .before .before .before .before .next .ensures, c .before .before .before .before .before .before .before .before .enum-told .given .1) (said (put-then (c .before .before .before .before .before .before .before .before .before .before .before .before .put .ensures) (c .before .before .before .before .before .before .before .before .before .before .before .before .put .kept .0) (c .before .before .before .before .before .before .put3 .ensures)) (c .before .before .before .before .before .before .put3 .kept .0 ∙ c .before .before .before .before .before .before .before .before .before .before .before .before .put .kept .0) (c .before .before .clear-words2 .ensures)))
-    (λ c. search needs)
-    -- returns-3
-    (λ c. rw (← c .before .before .before .before .before .before .before .before .before .before .before .before .before .before .endian-of .ensures, ← c .before .before .before .before .before .before .before .before .before .before .before .before .before .next .ensures, c .before .before .before .before .before .before .unit2 .given .1) (said-by (c .number .ensures) (said (c .before .before .before .before .before .before .before .before .before .before .put .ensures) (c .before .before .before .before .before .before .before .before .before .before .put .kept .0) (c .before .before .before .clear-words3 .ensures)))))
+    (λ c. rw (← c .before .before .before .before .before .endian-of .ensures, ← c .before .before .before .before .next-in .ensures) (c .before .before .give-next .ensures)))

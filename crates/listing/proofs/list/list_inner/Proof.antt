@@ -1,7 +1,10 @@
 use Prim.Native.Nat.{ℕ}
 use Rattle.listing.proofs.PieceLaws.{added-as}
-use Rattle.listing.proofs.UnitLaws.{unit-in, added-same, inner-none, inner-refused, inner-stopped, inner-further}
+use Rattle.listing.proofs.UnitLaws.{added-same, inner-none, inner-refused, inner-stopped, inner-further}
 use Rattle.listing.specs.Listing.{Shelf, unitLines}
+use Rattle.reader.specs.declared.endianity.RunTimeEndian.the-variants.{Little}
+use Rattle.unit.specs.Parse.{debugInfo}
+use Rattle.unit.proofs.UnitsLaws.{unit-in}
 use Rattle.unit.specs.Units.{Advanced}
 use Rattle.unit.specs.Views.{viewNextUnit}
 use lib.ListN.{length}
@@ -20,7 +23,7 @@ enum-known-unit c = search needs
 list-unit-requires : tie.Need-list-unit-requires
 list-unit-requires c κs =
     let a = c .before .before .before .before .before .before .before .before .before .before .before .before .before .args in
-    let z = unit-in (a .info .now) (a .place .unit) (sym (ap (λ (y : Advanced). y .answer) (c .before .before .before .before .before .before .before .next .ensures)) ∙ ap viewNextUnit (c .before .before .before .before .unit .given .1)) in
+    let z = unit-in debugInfo (a .info .now) (a .place .unit) Little (sym (ap (λ (y : Advanced). y .answer) (c .before .before .before .before .before .before .before .next .ensures)) ∙ ap viewNextUnit (c .before .before .before .before .unit .given .1)) in
     (record { short = z .short; there = omega (arith, z .offset, z .next-is, z .there); header = z .header }, c .before .before .before .before .before .before .before .before .before .before .before .before .before .pre)
 
 same-length : tie.Need-same-length

@@ -1,6 +1,9 @@
 use Prim.Native.Nat.{_-_}
-use Rattle.listing.proofs.UnitLaws.{unit-in, size-some, written-same, Shelved, shelved-begun, shelved-at, shelved-none, shelved-refused, shelved-stopped, shelved-further}
+use Rattle.listing.proofs.UnitLaws.{written-same, Shelved, shelved-begun, shelved-at, shelved-none, shelved-refused, shelved-stopped, shelved-further}
 use Rattle.listing.specs.Listing.{Shelf, unitAll}
+use Rattle.reader.specs.declared.endianity.RunTimeEndian.the-variants.{Little}
+use Rattle.unit.specs.Parse.{debugInfo}
+use Rattle.unit.proofs.UnitsLaws.{unit-in, size-some}
 use Rattle.unit.specs.Units.{Advanced}
 use Rattle.unit.specs.Views.{viewNextUnit}
 use lib.ListN.{length}
@@ -32,7 +35,7 @@ enum-known-unit c = search needs
 list-one-requires : tie.Need-list-one-requires Inv-loop μ-loop
 list-one-requires c κs =
     let a = c .before .before .before .before .before .before .before .before .before .before .before .before .before .before .args in
-    let z = unit-in (a .info .now) (c .before .before .before .before .before .before .before .before .loop .units .offset) (sym (ap (λ (y : Advanced). y .answer) (c .before .before .before .before .before .before .before .next .ensures)) ∙ ap viewNextUnit (c .before .before .before .before .unit .given .1)) in
+    let z = unit-in debugInfo (a .info .now) (c .before .before .before .before .before .before .before .before .loop .units .offset) Little (sym (ap (λ (y : Advanced). y .answer) (c .before .before .before .before .before .before .before .next .ensures)) ∙ ap viewNextUnit (c .before .before .before .before .unit .given .1)) in
     (record { short = z .short; there = omega (arith, z .offset, z .next-is, z .there); header = z .header }, c .before .before .before .before .before .before .before .before .loop .inv .0 .held)
 
 same-length : tie.Need-same-length Inv-loop μ-loop
@@ -53,7 +56,7 @@ returns c =
 loop-less : tie.Need-loop-less Inv-loop μ-loop
 loop-less c =
     let a = c .before .before .before .before .before .before .before .before .before .before .before .before .before .before .before .before .before .before .before .before .before .before .before .args in
-    let z = unit-in (a .info .now) (c .before .before .before .before .before .before .before .before .before .before .before .before .before .before .before .before .before .loop .units .offset) (sym (ap (λ (y : Advanced). y .answer) (c .before .before .before .before .before .before .before .before .before .before .before .before .before .before .before .before .next .ensures)) ∙ ap viewNextUnit (c .before .before .before .before .before .before .before .before .before .before .before .before .before .unit .given .1)) in
+    let z = unit-in debugInfo (a .info .now) (c .before .before .before .before .before .before .before .before .before .before .before .before .before .before .before .before .before .loop .units .offset) Little (sym (ap (λ (y : Advanced). y .answer) (c .before .before .before .before .before .before .before .before .before .before .before .before .before .before .before .before .next .ensures)) ∙ ap viewNextUnit (c .before .before .before .before .before .before .before .before .before .before .before .before .before .unit .given .1)) in
     let o = ap (λ (y : Advanced). y .offset) (c .before .before .before .before .before .before .before .before .before .before .before .before .before .before .before .before .next .ensures) in
     omega (arith, z .next-is, z .there, z .header, size-some (c .before .before .before .before .before .before .before .before .before .before .before .before .before .unit .given .0 .0), o)
 

@@ -7,7 +7,7 @@ abbrev Inv-loop : tie.InvT-loop
 Inv-loop kinds kind₀ t3 t4 kind = Unit {0}
 
 abbrev μ-loop : tie.MeasureT-loop
-μ-loop kinds kind₀ t3 t4 kind = 16 - kind
+μ-loop kinds kind₀ t3 t4 kind = 18 - kind
 
 pub say-kinds-spec : {M : Type 1} → statement M
 say-kinds-spec =

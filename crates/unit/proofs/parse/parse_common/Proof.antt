@@ -1,3 +1,4 @@
+use Rattle.unit.proofs.ParseLaws.{judge-is}
 use Rattle.unit.specs.Parse.{commonAt}
 use borrow.Author.Needs.{needs}
 use borrow.Author.Tests.{le-leb, lt-leb, eq-eqb, ne-eqb}
@@ -11,12 +12,13 @@ parse-common-spec =
     tie.close
     (tie.spec
     -- returns
-    (λ c. rw (lt-leb 2 _ (c .if1 .taken)))
+    (λ c. rw (judge-is, lt-leb 2 _ (c .if1 .taken)))
     -- returns-2
-    (λ c. rw (lt-leb _ 5 (c .if2 .taken), and-false))
+    (λ c. rw (judge-is, lt-leb _ 5 (c .if2 .taken), and-false))
     (λ c κs. search needs)
     -- returns-3
-    (λ c. rw (c .before .if3 .taken) (c .parse-newer .ensures))
+    (λ c. rw (judge-is, c .before .if3 .taken) (c .parse-newer .ensures))
+    (λ c κs. search needs)
     (λ c κs. search needs)
     -- returns-4
-    (λ c. rw (le-leb 2 _ (c .before .before .before .if1 .left), le-leb _ 5 (c .before .before .if2 .left), ne-eqb _ 5 (c .before .if3 .left)) (c .parse-older .ensures)))
+    (λ c. rw (judge-is, le-leb 2 _ (c .before .before .before .before .if1 .left), le-leb _ 5 (c .before .before .before .if2 .left), ne-eqb _ 5 (c .before .before .if3 .left), ← c .before .older-type .ensures) (c .parse-older .ensures)))

@@ -1,5 +1,5 @@
 use Rattle.unit.proofs.ParseLaws.{common-in}
-use Rattle.unit.specs.Parse.{debugInfo, restAt}
+use Rattle.unit.specs.Parse.{sectionOf, restAt}
 use borrow.Author.Needs.{needs}
 use native.Mathlib.Omega.{arith}
 use Rattle.unit.proofs.parse.parse_rest.Statement.{statement}
@@ -17,7 +17,7 @@ parse-rest-spec =
     -- cast-t21
     (λ c.
     let a = c .before .before .before .before .before .before .before .before .before .args in
-    let h = rw (← c .before .before .before .before .before .before .before .parse-common .ensures, c .before .before .before .before .before .table .given .1) at (common-in debugInfo (a .s .now) (a .p) (a .version) (a .format) (a .endian)) in
+    let h = rw (← c .before .before .before .before .before .before .before .parse-common .ensures, c .before .before .before .before .before .table .given .1) at (common-in (sectionOf (a .id)) (a .s .now) (a .p) (a .version) (a .format) (a .endian)) in
     omega (arith, h .byte))
     (λ c. search needs)
     (λ c. search needs)

@@ -5,12 +5,12 @@ use borrow.Author.Needs.{needs}
 use borrow.Author.Tests.{le-leb, lt-leb}
 use lib.Seq.{length-take-le}
 use mathlib.Core.Path.{sym}
-use Rattle.unit.proofs.parse.parse_unit_header.Statement.{statement}
-use Rattle.unit.proofs.parse.parse_unit_header.Tie as tie
+use Rattle.unit.proofs.parse.parse_header.Statement.{statement}
+use Rattle.unit.proofs.parse.parse_header.Tie as tie
 
-pub parse-unit-header-spec : {M : Type 1} → statement M
+pub parse-header-spec : {M : Type 1} → statement M
 unfolding headerAt
-parse-unit-header-spec =
+parse-header-spec =
     tie.close
     (tie.spec
     -- returns
