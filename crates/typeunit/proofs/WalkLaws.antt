@@ -26,7 +26,7 @@ use Rattle.entries.specs.Cursor.{openedCursor}
 use Rattle.entries.specs.Entry.{Entry, isNull}
 use Rattle.entries.specs.Flat as flat
 use Rattle.entries.specs.Open.{noNull, sectionsKept, firstEntry, cursorFrom, entryFrom}
-use Rattle.entries.specs.Raw.{judged, opened, startOf, taken, rawEntry}
+use Rattle.entries.specs.Raw.{judged, opened, startOf, unitSource, taken, rawEntry}
 use Rattle.entries.specs.Read.{Source, entryAt}
 use Rattle.entries.specs.declared.raw.EntriesRaw.{EntriesRaw}
 use Rattle.entries.specs.Steps.{KeptRaw}
@@ -99,6 +99,21 @@ module _ (sec : UnitSection) (units : List ℕ) (e : RunTimeEndian) (h : UnitHea
         by : (d : ℤ) (r : Answer (Read Entry)) → noNull (taken most start d r) ≡ andThen r (λ i. cond (isNull (i .value)) (refused 20) (got (i .value)))
         by d (got i) = named (isNull (i .value)) (i .value)
         by d (refused n) = refl
+
+-- from the root, where the unit has any entry bytes
+module _ (sec : UnitSection) (units : List ℕ) (e : RunTimeEndian) (h : UnitHeader) (there : UnitIn sec units e (h .offset) h (h .offset + unitEnd h)) (some : sizeOfHeader h < unitEnd h) where
+  pub root-inside : inBounds h (sizeOfHeader h) ≡ true
+  unfolding inBounds
+  root-inside = rw (le-leb (sizeOfHeader h) (sizeOfHeader h) (omega arith), lt-ltb (sizeOfHeader h) (unitEnd h) some)
+
+  abbrev pub rootBytes : List ℕ
+  rootBytes = bytesFrom sec units e h there (sizeOfHeader h) root-inside
+
+  pub root-demand-3 : (most : ℕ) (rows specs : List ℕ) (L : List flat.Item) → rootReading most (unitSource h e) rootBytes rows specs ≡ got L → Jumps (walkItems most (unitSource h e) rootBytes rows specs L)
+      → (rootOf most rootBytes rows specs (treeFrom most h (ownBytes sec units e h there) (sizeOfHeader h) e .tree) .answer ≡ got true)
+      × ((ks : List ℤ)
+      → treeWalk most rootBytes rows specs ks (treeFrom most h (ownBytes sec units e h there) (sizeOfHeader h) e .tree) ≡ map whole (walkSays (walkItems most (unitSource h e) rootBytes rows specs L) ks))
+  root-demand-3 = unit-demand-3 sec units e h there (sizeOfHeader h) root-inside
 
 -- ---- a type entry that was given
 
