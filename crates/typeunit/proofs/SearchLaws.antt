@@ -12,7 +12,7 @@ use Rattle.reader.specs.declared.endianity.RunTimeEndian.{RunTimeEndian}
 use Rattle.reader.proofs.Answers.{cond-by}
 use Rattle.unit.specs.Header.{unitEnd}
 use Rattle.unit.specs.Parse.{UnitSection, sectionOf}
-use Rattle.unit.specs.Units.{nextUnit, UnitList, listed, unitList}
+use Rattle.unit.specs.Units.{nextUnit, UnitList, listedBy, unitList}
 use Rattle.unit.specs.declared.header.UnitHeader.{UnitHeader}
 use Rattle.unit.specs.declared.header.UnitType.{UnitType}
 use Rattle.unit.specs.declared.header.UnitType.the-variants.{Compilation, «Type», Partial, Skeleton, SplitCompilation, SplitType}
@@ -28,8 +28,8 @@ abbrev pub searchFrom : UnitSection → List ℕ → ℕ → RunTimeEndian → �
 searchFrom sec s sig e at = foundIn sig (unitList sec s at e)
 
 module _ (sec : UnitSection) (s : List ℕ) (sig : ℕ) (e : RunTimeEndian) (at : ℕ) where
-  stepped : (r : Answer (Option UnitHeader)) → nextUnit sec s at e .answer ≡ r → searchFrom sec s sig e at ≡ foundIn sig (listed r (unitList sec s (nextUnit sec s at e .offset) e))
-  stepped r q = ap (foundIn sig) (list-step sec s at e ∙ ap (λ (r : Answer (Option UnitHeader)). listed r (unitList sec s (nextUnit sec s at e .offset) e)) q)
+  stepped : (r : Answer (Option UnitHeader)) → nextUnit sec s at e .answer ≡ r → searchFrom sec s sig e at ≡ foundIn sig (listedBy r (unitList sec s (nextUnit sec s at e .offset) e))
+  stepped r q = ap (foundIn sig) (list-step sec s at e ∙ ap (λ (r : Answer (Option UnitHeader)). listedBy r (unitList sec s (nextUnit sec s at e .offset) e)) q)
 
   pub search-found : {h : UnitHeader} → nextUnit sec s at e .answer ≡ got (some h) → carries sig h ≡ true → searchFrom sec s sig e at ≡ got h
   search-found {h} q c = stepped (got (some h)) q ∙ rw c

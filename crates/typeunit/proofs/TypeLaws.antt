@@ -23,7 +23,7 @@ use Rattle.unit.specs.Parse.{UnitSection}
 use Rattle.unit.specs.Range.{unitBytes}
 use Rattle.unit.specs.declared.header.UnitHeader.{UnitHeader}
 use Rattle.entries.specs.Entry.{Entry}
-use Rattle.entries.specs.Open.{entryFrom, EntryAt, orNull}
+use Rattle.entries.specs.Open.{sectionsKept, entryFrom, EntryAt, orNull}
 use Rattle.entries.proofs.SameLaws.{entry-laid}
 use Rattle.typeunit.specs.Search.{typeOffset, unitWith, bounded, typeUnit}
 use Rattle.typeunit.specs.Types.{TypeUnit, TypeAt, withEntry, typeTable, typeEntry, orNoType}
@@ -136,3 +136,27 @@ module _ (sec : UnitSection) (abbrevs units : List ℕ) (sig : ℕ) (e : RunTime
     pub unit-by : length units ≤ maxSection → typeUnit sec abbrevs units sig e ≡ andThen (unitWith sec units sig e) bounded
     unfolding typeUnit
     unit-by k = rw (le-leb (length abbrevs) maxSection short, le-leb (length units) maxSection k)
+
+-- ---- the questions in their order, of a unit that was found
+
+module _ (l : Limit) (sec : UnitSection) (abbrevs units : List ℕ) (sig : ℕ) (e : RunTimeEndian) (m k : ℕ) (kept : sectionsKept abbrevs units ≡ true) where
+  -- none was found: no table is read
+  pub not-found : {n : ℕ} → unitWith sec units sig e ≡ refused n
+      → (typeTable l abbrevs units e m k (typeUnit sec abbrevs units sig e) ≡ refused n) × (typeEntry l abbrevs units e m k (typeUnit sec abbrevs units sig e) ≡ refused n)
+  unfolding typeUnit typeTable typeEntry
+  not-found q = (rw (kept, q), rw (kept, q))
+
+  module _ {h : UnitHeader} (found : unitWith sec units sig e ≡ got h) where
+    -- 19 exactly if the type's offset is not inside, and no table is read
+    pub outside-19 : inBounds h (typeOffset h) ≡ false
+        → (typeTable l abbrevs units e m k (typeUnit sec abbrevs units sig e) ≡ refused 19) × (typeEntry l abbrevs units e m k (typeUnit sec abbrevs units sig e) ≡ refused 19)
+    unfolding typeUnit bounded typeTable typeEntry
+    outside-19 q = (rw (kept, found, q), rw (kept, found, q))
+
+    -- else the unit's own table, whatever becomes of the entry, and then the entry
+    pub inside-read : inBounds h (typeOffset h) ≡ true
+        → (typeTable l abbrevs units e m k (typeUnit sec abbrevs units sig e) ≡ abbreviationsAt abbrevs (h .«debug_abbrev_offset») l (m / 5) (k / 3))
+        × (typeEntry l abbrevs units e m k (typeUnit sec abbrevs units sig e)
+        ≡ andThen (abbreviationsAt abbrevs (h .«debug_abbrev_offset») l (m / 5) (k / 3)) (λ t. withEntry (l .most) units (tableRows m t) (tableSpecs k t) e h))
+    unfolding typeUnit bounded typeTable typeEntry
+    inside-read q = (rw (kept, found, q), rw (kept, found, q))

@@ -18,7 +18,7 @@ use Rattle.reader.specs.declared.endianity.RunTimeEndian.the-variants.{Little}
 use Rattle.reader.proofs.Answers.{holds-then, cond-by}
 use Rattle.unit.specs.Header.{typeNumber}
 use Rattle.unit.specs.Parse.{UnitSection, twoToFive, sectionOf, Common, signatureAt, typeAt, olderAt, typedAt, newerAt, commonAt, restAt, bodyAt, headerAt}
-use Rattle.unit.specs.Units.{Advanced, advanced, nextUnit, listed, listWithin, unitList}
+use Rattle.unit.specs.Units.{Advanced, advanced, nextUnit, listedBy, listWithin, unitList}
 use Rattle.unit.specs.declared.header.UnitHeader.{UnitHeader}
 use Rattle.unit.specs.declared.header.UnitType.{UnitType}
 use Rattle.unit.specs.declared.parse.SectionId.{SectionId}
@@ -223,7 +223,7 @@ pub stop-early : (id : SectionId) (s : List ℕ) (at : ℕ) (e : RunTimeEndian) 
 unfolding unitList listWithin
 stop-early id s at e = go (suc (length s - at)) at
   where
-    by-answer : (n a : ℕ) (r : Answer (Option UnitHeader)) → Early r → EarlyStop (listWithin (sectionOf id) s e n a .stop) → EarlyStop (listed r (listWithin (sectionOf id) s e n a) .stop)
+    by-answer : (n a : ℕ) (r : Answer (Option UnitHeader)) → Early r → EarlyStop (listWithin (sectionOf id) s e n a .stop) → EarlyStop (listedBy r (listWithin (sectionOf id) s e n a) .stop)
     by-answer n a (got none) h k = tt
     by-answer n a (got (some u)) h k = k
     by-answer n a (refused m) h k = h

@@ -15,7 +15,7 @@ use Rattle.reader.proofs.Answers.{cond-by}
 use Rattle.reader.proofs.Counts.{without-count}
 use Rattle.unit.specs.Header.{sizeOfHeader, unitEnd}
 use Rattle.unit.specs.Parse.{UnitSection, headerAt}
-use Rattle.unit.specs.Units.{Advanced, advanced, nextUnit, UnitList, listed, listWithin, unitList}
+use Rattle.unit.specs.Units.{Advanced, advanced, nextUnit, UnitList, listedBy, listWithin, unitList}
 use Rattle.unit.specs.declared.header.UnitHeader.{UnitHeader}
 use Rattle.unit.proofs.ParseLaws.{HeaderIn, header-in}
 
@@ -67,18 +67,18 @@ pub unit-further : (sec : UnitSection) (s : List ℕ) (at : ℕ) (e : RunTimeEnd
 unit-further sec s at e {h} q = let z = unit-in sec s at e q in omega (arith, z .next-is, z .header, size-some h)
 
 -- the definition without its count
-pub list-step : (sec : UnitSection) (s : List ℕ) (at : ℕ) (e : RunTimeEndian) → unitList sec s at e ≡ listed (nextUnit sec s at e .answer) (unitList sec s (nextUnit sec s at e .offset) e)
+pub list-step : (sec : UnitSection) (s : List ℕ) (at : ℕ) (e : RunTimeEndian) → unitList sec s at e ≡ listedBy (nextUnit sec s at e .answer) (unitList sec s (nextUnit sec s at e .offset) e)
 unfolding unitList listWithin
 list-step sec s at e =
-    without-count (λ (a : ℕ). suc (length s - a)) (λ f a. listed (nextUnit sec s a e .answer) (f (nextUnit sec s a e .offset))) (listWithin sec s e) (λ n a. refl)
+    without-count (λ (a : ℕ). suc (length s - a)) (λ f a. listedBy (nextUnit sec s a e .answer) (f (nextUnit sec s a e .offset))) (listWithin sec s e) (λ n a. refl)
     (λ f g a h. same f g a (nextUnit sec s a e .answer) refl h)
     (λ f a q. absurd (omega (arith, q))) at
   where
     same : (f g : ℕ → UnitList) (a : ℕ) (r : Answer (Option UnitHeader)) → nextUnit sec s a e .answer ≡ r → ((b : ℕ) → suc (length s - b) < suc (length s - a) → f b ≡ g b)
-        → listed r (f (nextUnit sec s a e .offset)) ≡ listed r (g (nextUnit sec s a e .offset))
+        → listedBy r (f (nextUnit sec s a e .offset)) ≡ listedBy r (g (nextUnit sec s a e .offset))
     same f g a (got none) q h = refl
     same f g a (got (some u)) q h =
-        ap (listed (got (some u))) (h (nextUnit sec s a e .offset) (omega (arith, unit-further sec s a e q, unit-in sec s a e q .there)))
+        ap (listedBy (got (some u))) (h (nextUnit sec s a e .offset) (omega (arith, unit-further sec s a e q, unit-in sec s a e q .there)))
     same f g a (refused n) q h = refl
 
 -- ---- the list as a whole: from a place on, each unit starts where the one before it ends
@@ -94,7 +94,7 @@ module _ (sec : UnitSection) (s : List ℕ) (e : RunTimeEndian) where
     where
       by-answer : (n a : ℕ) (r : Answer (Option UnitHeader)) → nextUnit sec s a e .answer ≡ r
           → InPlace sec s e (nextUnit sec s a e .offset) (listWithin sec s e n (nextUnit sec s a e .offset) .headers)
-          → InPlace sec s e a (listed r (listWithin sec s e n (nextUnit sec s a e .offset)) .headers)
+          → InPlace sec s e a (listedBy r (listWithin sec s e n (nextUnit sec s a e .offset)) .headers)
       by-answer n a (got none) q more = tt
       by-answer n a (got (some h)) q more =
           let z = unit-in sec s a e q in

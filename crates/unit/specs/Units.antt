@@ -35,15 +35,15 @@ pub record UnitList : Type 0 where
   pub stop : Option ℕ
 
 -- an answer, and what follows it
-abbrev pub listed : Answer (Option UnitHeader) → UnitList → UnitList
-listed (got none) more = record { headers = []; stop = none }
-listed (got (some h)) more = record { headers = h ∷ more .headers; stop = more .stop }
-listed (refused n) more = record { headers = []; stop = some n }
+abbrev pub listedBy : Answer (Option UnitHeader) → UnitList → UnitList
+listedBy (got none) more = record { headers = []; stop = none }
+listedBy (got (some h)) more = record { headers = h ∷ more .headers; stop = more .stop }
+listedBy (refused n) more = record { headers = []; stop = some n }
 
 -- n answers at most
 unfoldable pub listWithin : UnitSection → List ℕ → RunTimeEndian → ℕ → ℕ → UnitList
 listWithin sec s e zero at = record { headers = []; stop = none }
-listWithin sec s e (suc n) at = listed (nextUnit sec s at e .answer) (listWithin sec s e n (nextUnit sec s at e .offset))
+listWithin sec s e (suc n) at = listedBy (nextUnit sec s at e .answer) (listWithin sec s e n (nextUnit sec s at e .offset))
 
 -- 01's unit list from a place on; each header takes a byte, so that the bytes run out first (`list-step`)
 unfoldable pub unitList : UnitSection → List ℕ → ℕ → RunTimeEndian → UnitList
