@@ -1,26 +1,21 @@
 -- Laws of the lines of units.
-use mathlib.Core.Bool.{Bool, true, false, cond, _&&_}
+use mathlib.Core.Bool.{Bool, true, false, cond}
 use mathlib.Core.Path.{_≡_, refl, sym, ap, _∙_, subst}
-use mathlib.Core.List.{List, [], _∷_, _++_, append-assoc, append-nil, List·Permᴰ, List·Permᴰ·nil, List·Permᴰ·cons}
+use mathlib.Core.List.{List, [], _∷_}
 use mathlib.Core.Option.{Option, none, some}
-use Prim.Native.Nat.{ℕ, zero, suc, _+_, _-_, _*_, _≤_, _<_}
+use Prim.Native.Nat.{ℕ, zero, suc, _-_, _<_}
 use native.Mathlib.Omega.{arith}
-use borrow.Author.Tests.{leb-true}
-use lib.Dec.{eqb, leb}
+use lib.Dec.{leb}
 use lib.IntN.{ℤ}
-use lib.ListN.{length, length-append}
-use Rattle.reader.specs.Answer.{Answer, got, refused, andThen, ifSome, Read, gives, Holds}
-use Rattle.reader.specs.Leb128.{ulebAt}
-use Rattle.reader.specs.Sizes.{maxSection}
+use lib.ListN.{length}
+use Rattle.reader.specs.Answer.{Answer, got, refused, ifSome, Read}
 use Rattle.reader.specs.declared.endianity.RunTimeEndian.the-variants.{Little}
 use Rattle.reader.proofs.Counts.{without-count}
-use Rattle.attribute.proofs.FormLaws.{both}
-use Rattle.abbrev.specs.Lookup.{Found, lookup}
-use Rattle.abbrev.specs.Rows.{Row, rowsFrom, Laid, tableRows, tableSpecs}
+use Rattle.abbrev.specs.Lookup.{lookup}
+use Rattle.abbrev.specs.Rows.{Laid, tableRows, tableSpecs}
 use Rattle.abbrev.specs.Table.{Declaration}
 use Rattle.abbrev.proofs.Bounds.{Sound}
 use Rattle.abbrev.proofs.Lookups.{lookup-in-order}
-use Rattle.unit.specs.Header.{sizeOfHeader, unitEnd}
 use Rattle.unit.specs.Parse.{debugInfo}
 use Rattle.unit.specs.Units.{nextUnit}
 use Rattle.unit.specs.declared.header.UnitHeader.{UnitHeader}
@@ -30,8 +25,8 @@ use Rattle.entries.specs.Entry.{Entry}
 use Rattle.entries.specs.Flat.{Reading, nothing, before, readOn, readWithin, readFrom, never}
 use Rattle.entries.specs.Raw.{sourceOf}
 use Rattle.entries.specs.declared.raw.EntriesRaw.{EntriesRaw}
-use Rattle.entries.specs.Read.{Source, known, abbreviationAt, entryAt, entryAfter, afterEntry}
-use Rattle.listing.specs.Listing.{Placed, placeOf, put, orStop, headLine, readLines, itemLines, Shelf, unitEntries, unitAll, unitsWithin, unitLines, innerLines}
+use Rattle.entries.specs.Read.{Source, entryAt, afterEntry}
+use Rattle.listing.specs.Listing.{Placed, placeOf, put, orStop, readLines, itemLines, Shelf, unitEntries, unitAll, unitsWithin, unitLines, innerLines}
 use Rattle.listing.specs.Text.{endLine, refusedLine}
 use Rattle.listing.specs.Written.{partOf, adds, Held, Added, Written}
 use Rattle.listing.specs.declared.list.Wrote.{Wrote}

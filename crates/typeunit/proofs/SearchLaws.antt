@@ -1,5 +1,5 @@
 -- The search is for the first in the list.
-use mathlib.Core.Bool.{Bool, true, false, cond, false≢true}
+use mathlib.Core.Bool.{true, false, false≢true}
 use mathlib.Core.Path.{_≡_, refl, sym, ap, subst, _∙_}
 use mathlib.Core.List.{List, [], _∷_, _++_}
 use mathlib.Core.Option.{Option, none, some}
@@ -12,7 +12,7 @@ use Rattle.reader.specs.declared.endianity.RunTimeEndian.{RunTimeEndian}
 use Rattle.reader.proofs.Answers.{cond-by}
 use Rattle.unit.specs.Header.{unitEnd}
 use Rattle.unit.specs.Parse.{UnitSection, sectionOf}
-use Rattle.unit.specs.Units.{nextUnit, UnitList, listedBy, unitList}
+use Rattle.unit.specs.Units.{nextUnit, listedBy, unitList}
 use Rattle.unit.specs.declared.header.UnitHeader.{UnitHeader}
 use Rattle.unit.specs.declared.header.UnitType.{UnitType}
 use Rattle.unit.specs.declared.header.UnitType.the-variants.{Compilation, «Type», Partial, Skeleton, SplitCompilation, SplitType}

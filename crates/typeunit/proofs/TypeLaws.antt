@@ -1,15 +1,12 @@
 -- Laws of the type entry.
-use mathlib.Core.Bool.{Bool, true, false, cond, not}
+use mathlib.Core.Bool.{true, false, not}
 use mathlib.Core.Path.{_≡_, refl, sym, ap, subst, _∙_}
-use mathlib.Core.List.{List, _++_, _∷_}
-use Prim.Native.Nat.{ℕ, _+_, _-_, _/_, _^_, _≤_, _<_}
+use mathlib.Core.List.{List}
+use Prim.Native.Nat.{ℕ, _-_, _/_, _≤_, _<_}
 use native.Mathlib.Omega.{arith}
-use borrow.Author.Tests.{le-leb, lt-leb, lt-ltb, leb-true}
-use lib.Dec.{leb, ltb}
-use lib.IntN.{pos}
-use lib.ListN.{length, take, drop}
-use lib.Seq.{length-take-le}
-use Rattle.reader.specs.Answer.{Answer, got, refused, andThen, Read, gives, Holds}
+use borrow.Author.Tests.{le-leb, lt-leb}
+use lib.ListN.{length}
+use Rattle.reader.specs.Answer.{Answer, got, refused, andThen, gives, Holds}
 use Rattle.reader.specs.Sizes.{maxSection}
 use Rattle.reader.specs.declared.endianity.RunTimeEndian.{RunTimeEndian}
 use Rattle.abbrev.specs.Rows.{Blank, Laid, Left, tableRows, tableSpecs}

@@ -1,16 +1,15 @@
 -- Walks over a unit of any section, from its root and from its type entry: demand 3 as it stands for every unit.
-use mathlib.Core.Bool.{Bool, true, false, cond, not, _&&_}
+use mathlib.Core.Bool.{Bool, true, false, cond, not}
 use mathlib.Core.Path.{_≡_, refl, sym, ap, subst, _∙_}
 use mathlib.Core.List.{List, map}
-use Prim.Native.Nat.{ℕ, _+_, _-_, _/_, _^_, _≤_, _<_}
+use Prim.Native.Nat.{ℕ, _+_, _-_, _/_, _^_, _<_}
 use native.Mathlib.Omega.{arith}
 use borrow.Author.Tests.{le-leb, lt-ltb, ltb-true}
-use lib.Dec.{leb, ltb, eqb}
+use lib.Dec.{leb, ltb}
 use lib.IntN.{ℤ, pos}
 use lib.ListN.{length, take, drop, length-drop}
 use lib.Seq.{length-take-le}
 use Rattle.reader.specs.Answer.{Answer, got, refused, andThen, Read, gives}
-use Rattle.reader.specs.Sizes.{maxSection}
 use Rattle.reader.specs.declared.endianity.RunTimeEndian.{RunTimeEndian}
 use Rattle.abbrev.specs.Rows.{tableRows, tableSpecs}
 use Rattle.abbrev.specs.Table.{Limit, Declaration, abbreviationsAt}
@@ -27,9 +26,8 @@ use Rattle.entries.specs.Entry.{Entry, isNull}
 use Rattle.entries.specs.Flat as flat
 use Rattle.entries.specs.Open.{noNull, sectionsKept, firstEntry, cursorFrom, entryFrom}
 use Rattle.entries.specs.Raw.{judged, opened, startOf, unitSource, taken, rawEntry}
-use Rattle.entries.specs.Read.{Source, entryAt}
+use Rattle.entries.specs.Read.{entryAt}
 use Rattle.entries.specs.declared.raw.EntriesRaw.{EntriesRaw}
-use Rattle.entries.specs.Steps.{KeptRaw}
 use Rattle.entries.proofs.RawLaws.{raw-keeps}
 use Rattle.tree.specs.Demand.{rootReading, walkItems, treeWalk, whole}
 use Rattle.tree.specs.Tree.{rootOf}

@@ -1,5 +1,5 @@
 -- Headers of one section and of another: what differs, and with which numbers both refuse.
-use mathlib.Core.Bool.{Bool, true, false, cond, _&&_}
+use mathlib.Core.Bool.{Bool, cond, _&&_}
 use mathlib.Core.Path.{_≡_, refl, _∙_}
 use mathlib.Core.List.{List}
 use mathlib.Core.Option.{Option, none, some}
@@ -8,7 +8,7 @@ use native.Mathlib.Omega.{arith}
 use borrow.Author.Tests.{eqb-true}
 use lib.Dec.{eqb, leb, ltb}
 use lib.ListN.{length, take}
-use Rattle.reader.specs.Answer.{Answer, got, refused, andThen, Read, gives, Holds}
+use Rattle.reader.specs.Answer.{Answer, got, refused, andThen, Read, Holds}
 use Rattle.reader.specs.Fields.{addressSizeAt, offsetAt, isAddressSize, wordSize, Initial, longLengthAt, initialLengthAt, skipAt}
 use Rattle.reader.specs.Sizes.{maxSection}
 use Rattle.reader.specs.Words.{wordAt}
@@ -17,10 +17,9 @@ use Rattle.reader.specs.declared.endianity.RunTimeEndian.{RunTimeEndian}
 use Rattle.reader.specs.declared.endianity.RunTimeEndian.the-variants.{Little}
 use Rattle.reader.proofs.Answers.{holds-then, cond-by}
 use Rattle.unit.specs.Header.{typeNumber}
-use Rattle.unit.specs.Parse.{UnitSection, twoToFive, sectionOf, Common, signatureAt, typeAt, olderAt, typedAt, newerAt, commonAt, restAt, bodyAt, headerAt}
+use Rattle.unit.specs.Parse.{UnitSection, sectionOf, Common, signatureAt, typeAt, olderAt, typedAt, newerAt, commonAt, restAt, bodyAt, headerAt}
 use Rattle.unit.specs.Units.{Advanced, advanced, nextUnit, listedBy, listWithin, unitList}
 use Rattle.unit.specs.declared.header.UnitHeader.{UnitHeader}
-use Rattle.unit.specs.declared.header.UnitType.{UnitType}
 use Rattle.unit.specs.declared.parse.SectionId.{SectionId}
 use Rattle.unit.specs.declared.parse.SectionId.the-variants as section
 use Rattle.unit.proofs.ParseLaws.{judge-is, type-numbered}

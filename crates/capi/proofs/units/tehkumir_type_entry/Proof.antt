@@ -1,4 +1,3 @@
-use Rattle.abbrev.specs.Table.{entryLimit}
 use Rattle.capi.proofs.AnswerLaws.{typed-words}
 use borrow.Author.Needs.{needs}
 use Rattle.capi.proofs.units.tehkumir_type_entry.Statement.{statement}

@@ -7,7 +7,6 @@ use Rattle.unit.proofs.UnitsLaws.{unit-in, size-some}
 use Rattle.unit.specs.Units.{Advanced}
 use Rattle.unit.specs.Views.{viewNextUnit}
 use lib.ListN.{length}
-use mathlib.Core.List.{List}
 use mathlib.Core.Path.{_≡_, refl, sym, ap, _∙_}
 use native.Mathlib.Omega.{arith}
 use borrow.Author.Needs.{needs}
