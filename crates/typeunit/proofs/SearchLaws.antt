@@ -19,7 +19,7 @@ use Rattle.unit.specs.declared.header.UnitType.the-variants.{Compilation, «Typ
 use Rattle.unit.specs.declared.parse.SectionId.{SectionId}
 use Rattle.unit.proofs.SectionLaws.{EarlyStop, stop-early}
 use Rattle.unit.proofs.UnitsLaws.{UnitIn, list-step, InPlace, list-in-place, in-its-place}
-use Rattle.typeunit.specs.Search.{signatureOf, carries, firstWith, foundIn, unitWith}
+use Rattle.typeunit.specs.Search.{signatureOf, carries, typeOffset, firstWith, foundIn, unitWith}
 
 -- ---- one header after another
 
@@ -68,6 +68,15 @@ is-carries sig h = by (h .«unit_type»)
     by : (t : UnitType) → Carried sig t → ifSome (signatureOf t) false (λ x. eqb (x .signature) sig) ≡ true
     by _ (type o) = eq-eqb sig sig refl
     by _ (split o) = eq-eqb sig sig refl
+
+-- and the type's offset is the word beside it
+pub offset-is : (h : UnitHeader) {s o : ℕ} → h .«unit_type» ≡ «Type» s o → typeOffset h ≡ o
+unfolding typeOffset
+offset-is h q = rw q
+
+pub split-offset-is : (h : UnitHeader) {s o : ℕ} → h .«unit_type» ≡ SplitType s o → typeOffset h ≡ o
+unfolding typeOffset
+split-offset-is h q = rw q
 
 -- ---- the first in the list
 
