@@ -8,7 +8,7 @@
 enum {
     FULL = 15,         /* the refusal of a table for want of rows */
     CALLS = 512,       /* entries read at a time */
-    WORDS = 32 * CALLS /* for their answers; one needs at most 4 + 5 + 5 * 64 */
+    WORDS = 40 * CALLS /* for their answers; the longest, an entry of 64 attributes, must fit */
 };
 enum { NEXT_UNIT, HAS_UNIT, HEADER, NEXT_WORDS = HEADER + HEADER_WORDS }; /* of a list of units */
 enum { STATUS, IS_ENTRY, NEXT, NEXT_DEPTH, CALL_WORDS };                  /* before the ENTRY of each call */
@@ -114,11 +114,11 @@ static uint64_t show_calls(const struct listing *listing, const uint64_t *header
 {
     struct place from = *place;
     size_t w = 0;
-    for (size_t i = 0; i < calls && place->at < count && w + CALL_WORDS + ENTRY_WORDS <= WORDS; i++) {
+    for (size_t i = 0; i < calls && place->at < count && w + CALL_WORDS + TEHKUMIR_ENTRY_WORDS <= WORDS; i++) {
         const uint64_t *entry = words + w + CALL_WORDS;
         if (words[w + STATUS] != 0)
             return words[w + STATUS];
-        size_t end = w + CALL_WORDS + ENTRY_WORDS + (size_t)entry[COUNT] * ATTRIBUTE_WORDS;
+        size_t end = w + CALL_WORDS + TEHKUMIR_ENTRY_WORDS + (size_t)entry[COUNT] * TEHKUMIR_ATTRIBUTE_WORDS;
         if (end > WORDS)
             return 0;
         show_entry(listing->options, listing->build, header, entry, from.depth + (int64_t)entry[DEPTH]);

@@ -80,8 +80,8 @@ const char *case_name(uint64_t number);
 
 /* The words of HEADER, ENTRY and ATTRIBUTE, as include/tehkumir.h lists them. */
 enum { OFFSET, LENGTH, VERSION, WORD, WIDTH, TABLE, SIZE, TYPE, SIGNATURE, TYPE_OFFSET, HEADER_WORDS };
-enum { PLACE, DEPTH, TAG, CHILDREN, COUNT, ENTRY_WORDS };
-enum { NAME, FORM, CASE, LOW, HIGH, ATTRIBUTE_WORDS };
+enum { PLACE, DEPTH, TAG, CHILDREN, COUNT };
+enum { NAME, FORM, CASE, LOW, HIGH, PADDED };
 
 /* show.c: the lines */
 void show_heading(const struct options *options, const struct build *build);

@@ -151,7 +151,7 @@ static void json_entry(const struct options *options, const struct build *build,
         for (size_t i = 0; i < entry[COUNT]; i++) {
             if (i > 0)
                 out_char(',');
-            json_attribute(options, build, header, entry + ENTRY_WORDS + ATTRIBUTE_WORDS * i);
+            json_attribute(options, build, header, entry + TEHKUMIR_ENTRY_WORDS + TEHKUMIR_ATTRIBUTE_WORDS * i);
         }
         out_char(']');
     }
@@ -189,7 +189,7 @@ void show_entry(const struct options *options, const struct build *build, const 
     out_number(entry[COUNT]);
     out_char('\n');
     for (size_t i = 0; options->values && i < entry[COUNT]; i++)
-        show_attribute(options, build, header, entry + ENTRY_WORDS + ATTRIBUTE_WORDS * i);
+        show_attribute(options, build, header, entry + TEHKUMIR_ENTRY_WORDS + TEHKUMIR_ATTRIBUTE_WORDS * i);
 }
 
 static void json_unit(const struct options *options, const struct build *build, const uint64_t *header)

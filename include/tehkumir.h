@@ -10,9 +10,14 @@
  *              table, size of the header, number of the type (1 compilation, 2 type, 3 partial, 4 skeleton, 5 split
  *              compilation, 6 split type); then for 2 and 6 the signature and the type's offset, for 4 and 5 the dwo_id
  *   ATTRIBUTE  name, form, number of its value's case (below), two numbers: the value and 0, a flag's 1 or 0, the low and
- *              high 64 bits, or the place in the unit and the length of a block, an expression or a string
+ *              high 64 bits, or the place in the unit and the length of a block, an expression or a string; then 1 where a
+ *              LEB128 number read for it is padded, else 0
  *   ENTRY      offset in the unit, depth, tag, 1 where it has children, count of its attributes; then each ATTRIBUTE. A
  *              null has 0 for tag, children and count
+ *
+ * A LEB128 number is padded where fewer bytes are read to the same number by the same reader. For an attribute those in the
+ * unit count: each form number behind an indirect form, the length of a block or an expression, the value; not the entry's
+ * code, and nothing in the table, so not the constant of DW_FORM_implicit_const.
  *
  * Rows hold a table: five words for an abbreviation (code, tag, children, first specification row, count), three for a
  * specification (name, form, constant). tehkumir_abbreviations fills them.
@@ -55,7 +60,10 @@ enum tehkumir_case {
     TEHKUMIR_STRING
 };
 
-/* LEB128 numbers: the number and the next place; to skip, the next place. */
+/* The words of an ENTRY before its attributes, and those of each. */
+enum { TEHKUMIR_ENTRY_WORDS = 5, TEHKUMIR_ATTRIBUTE_WORDS = 6 };
+
+/* LEB128 numbers: the number, the next place, how many bytes it has, 1 where it is padded, else 0; to skip, the next place. */
 uint64_t tehkumir_read_uleb128(const uint8_t *bytes, size_t len, size_t at, uint64_t *out, size_t out_len);
 uint64_t tehkumir_read_uleb128_u16(const uint8_t *bytes, size_t len, size_t at, uint64_t *out, size_t out_len);
 uint64_t tehkumir_read_sleb128(const uint8_t *bytes, size_t len, size_t at, uint64_t *out, size_t out_len);

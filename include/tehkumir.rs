@@ -2,6 +2,11 @@
 //! `#[path = ".."] mod tehkumir;`. Every pointer is that of a slice beside its length; slices that are written overlap no other.
 #![allow(dead_code)]
 
+/// The words of an ENTRY before its attributes.
+pub const TEHKUMIR_ENTRY_WORDS: usize = 5;
+/// The words of an ATTRIBUTE.
+pub const TEHKUMIR_ATTRIBUTE_WORDS: usize = 6;
+
 unsafe extern "C" {
     pub fn tehkumir_read_uleb128(b: *const u8, n: usize, at: usize, out: *mut u64, len: usize) -> u64;
     pub fn tehkumir_read_uleb128_u16(b: *const u8, n: usize, at: usize, out: *mut u64, len: usize) -> u64;

@@ -4,7 +4,7 @@ mod port;
 mod theirs;
 
 use gimli::{Abbreviations, DebugAbbrev, DebugInfo, Endianity, LittleEndian, RunTimeEndian, UnitHeader};
-use port::{Part, Table};
+use port::{Part, TEHKUMIR_ATTRIBUTE_WORDS, Table};
 use std::collections::HashMap;
 use std::hint::black_box;
 use std::time::Instant;
@@ -207,12 +207,12 @@ fn tally_words(words: &[u64], calls: usize, head: usize, values: bool, t: &mut T
             t.item(said[2], said[3], entry[0], 0);
         } else if said[1] != 0 || nulls {
             t.item(entry[0], entry[1], entry[2], entry[4]);
-            for a in entry[5..][..5 * entry[4] as usize].chunks(5) {
+            for a in entry[5..][..TEHKUMIR_ATTRIBUTE_WORDS * entry[4] as usize].chunks(TEHKUMIR_ATTRIBUTE_WORDS) {
                 t.mix(a[0]);
                 t.mix(a[1]);
             }
         }
-        at += head + if values { 5 + 5 * entry[4] as usize } else { 3 };
+        at += head + if values { 5 + TEHKUMIR_ATTRIBUTE_WORDS * entry[4] as usize } else { 3 };
     }
 }
 
@@ -247,7 +247,7 @@ fn walk<'b, 'a: 'b, E: Endianity>(
     for u in b.units.iter().filter(|_| b.wants(name)) {
         // an entry may be held by several calls: by its last one, where nothing more is reached
         let calls = calls(u);
-        let mut out = vec![0; calls * (head + 5) + 5 * u.values + 64 * 5 * 4];
+        let mut out = vec![0; calls * (head + 5) + TEHKUMIR_ATTRIBUTE_WORDS * u.values + 64 * TEHKUMIR_ATTRIBUTE_WORDS * 4];
         left.units += 1;
         let ours: Walk<'_, 'a, E> = &ours;
         if ours(u, &mut out) != 0 {

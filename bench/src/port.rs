@@ -2,6 +2,7 @@
 
 #[path = "../../include/tehkumir.rs"]
 mod ffi;
+pub use ffi::TEHKUMIR_ATTRIBUTE_WORDS;
 
 /// Rows of a table: five words for an abbreviation, three for a specification.
 #[derive(Default)]

@@ -1,5 +1,6 @@
 //! A case: one call of one exported function with its inputs; and what is expected of it.
 
+use crate::rules::Pairs;
 use std::sync::Arc;
 
 pub const ULEB: u8 = 0;
@@ -47,6 +48,10 @@ pub const NAMES: [&str; KINDS] = [
     "list",
 ];
 
+/// The words of an entry before its attributes, and of each attribute, of which the last is its mark.
+const ENTRY_WORDS: usize = 5;
+const ATTRIBUTE_WORDS: usize = 6;
+
 /// Where the expected answer is not gimli's own. The first ones are the differences that
 /// docs/DIFFERENCES.md lists; from `CLOSED` on gimli cannot be asked, or its state is not looked at,
 /// and document 01 says what is expected.
@@ -91,6 +96,8 @@ pub struct Table {
     pub specs: Vec<u64>,
     /// specifications in gimli's table, for the cost of printing it
     pub size: usize,
+    /// padded numbers of the section, which are none of an attribute's
+    pub padded: Pairs,
 }
 
 /// The scalar parameters `n` stand in their order:
@@ -234,8 +241,25 @@ pub fn signed(w: &[u64]) -> String {
     s.join(" ")
 }
 
-/// What is expected: a status and words. For a table or a type also the rows, sorted since their order
-/// is left open, and the specifications; for a listing the text.
+/// The padded numbers of what was read, for the counts of a run.
+#[derive(Clone, Default)]
+pub struct Padded {
+    /// of a number: the bytes used, and whether fewer would do
+    pub number: Option<(usize, bool)>,
+    /// attributes read
+    pub attributes: u64,
+    /// of each marked one the form that its form is in the end, whether a number that names a form is padded, and
+    /// whether its value's own number is
+    pub marked: Vec<(u64, bool, bool)>,
+    /// what does not count, where there is no mark: entries whose code is padded, attributes whose name or form is
+    /// padded in the table, and those whose constant is
+    pub codes: u64,
+    pub pairs: u64,
+    pub constants: u64,
+}
+
+/// What is expected: a status and words, gimli's own but for those of `added`. For a table or a type also the rows,
+/// sorted since their order is left open, and the specifications; for a listing the text.
 #[derive(Clone, Default)]
 pub struct Answer {
     pub status: u64,
@@ -251,6 +275,7 @@ pub struct Answer {
     pub ends: Vec<usize>,
     /// calls that start with a jump by a sibling reference
     pub jumps: u64,
+    pub padded: Padded,
     /// something in the harness or in gimli that should not be: gimli panicked, two of its own
     /// functions disagree, or the harness's own reading of a table differs from gimli's
     pub trouble: Option<String>,
@@ -268,6 +293,40 @@ impl Answer {
     pub fn class(mut self, class: u32) -> Answer {
         self.classes |= class;
         self
+    }
+
+    /// The places of the words that gimli does not have: how many bytes a number has and whether fewer would do, and
+    /// the marks of attributes.
+    pub fn added(&self, case: &Case) -> Vec<usize> {
+        let mut all = Vec::new();
+        let mut entry = |at: usize| {
+            let count = self.words[at + 4] as usize;
+            all.extend((1..=count).map(|i| at + ENTRY_WORDS + ATTRIBUTE_WORDS * i - 1));
+        };
+        match case.kind {
+            _ if self.status != 0 => {}
+            ULEB | ULEB16 | SLEB => all.extend([2, 3]),
+            ATTRIBUTE => all.push(ATTRIBUTE_WORDS),
+            ENTRY => entry(0),
+            TYPE_ENTRY => entry(match self.words[7] {
+                2 | 6 => 10,
+                4 | 5 => 9,
+                _ => 8,
+            }),
+            RAW | RAW_LENT | CURSOR | TREE => {
+                let head = if case.kind == TREE { 5 } else { 4 };
+                let mut from = 0;
+                for (call, end) in case.calls.iter().zip(&self.ends) {
+                    let is_skip = *call != 0 && matches!(case.kind, RAW | RAW_LENT);
+                    if !is_skip {
+                        entry(from + head);
+                    }
+                    from = *end;
+                }
+            }
+            _ => {}
+        }
+        all
     }
 
     pub fn end_call(&mut self, status: u64) {

@@ -18,6 +18,9 @@ pub struct Stats {
     pub faults: BTreeMap<String, (u64, usize, String)>,
     /// by kind: words changed on purpose, and noticed
     pub planted: [(u64, u64); KINDS],
+    /// those of them that gimli does not have
+    pub planted_added: [(u64, u64); KINDS],
+    pub padded: PaddedStats,
     pub jumps: u64,
     /// cases that this build of gimli cannot be asked
     pub unasked: u64,
@@ -32,6 +35,8 @@ impl Default for Stats {
             classes: [0; CLASSES],
             faults: BTreeMap::new(),
             planted: [(0, 0); KINDS],
+            planted_added: [(0, 0); KINDS],
+            padded: PaddedStats::default(),
             jumps: 0,
             unasked: 0,
         }
@@ -48,7 +53,10 @@ impl Stats {
             }
             self.planted[k].0 += other.planted[k].0;
             self.planted[k].1 += other.planted[k].1;
+            self.planted_added[k].0 += other.planted_added[k].0;
+            self.planted_added[k].1 += other.planted_added[k].1;
         }
+        self.padded.add(&other.padded);
         for c in 0..CLASSES {
             self.classes[c] += other.classes[c];
         }
@@ -74,7 +82,7 @@ impl Stats {
 
     /// Whether everything is as it should be.
     pub fn passed(&self) -> bool {
-        self.faults.is_empty() && self.planted.iter().all(|(a, b)| a == b)
+        self.faults.is_empty() && self.planted.iter().all(|(a, b)| a == b) && self.padded.lacks().is_empty()
     }
 
     pub fn report(&self) {
@@ -104,18 +112,129 @@ impl Stats {
         for c in 0..CLASSES {
             println!("  {:>10}  {}", self.classes[c], CLASS_NAMES[c]);
         }
+        self.padded.report();
         if self.planted.iter().any(|x| x.0 != 0) {
-            println!("words changed on purpose, and noticed");
+            println!("words changed on purpose, and noticed (of them those that gimli does not have)");
             for k in 0..KINDS {
                 let (a, b) = self.planted[k];
+                let (added, noticed) = self.planted_added[k];
                 if a != 0 {
-                    println!("  {:20} {a:>8} {b:>8}", NAMES[k]);
+                    println!("  {:20} {a:>8} {b:>8}   ({added:>6} {noticed:>6})", NAMES[k]);
                 }
             }
         }
         println!("differences: {}", self.faults.values().map(|x| x.0).sum::<u64>());
         for (key, (count, _, text)) in &self.faults {
             println!("- {key}: {count}; the smallest:\n{text}");
+        }
+    }
+}
+
+/// How often there were padded numbers. Raw runs count twice, as they are put twice.
+#[derive(Default)]
+pub struct PaddedStats {
+    /// by kind and bytes used: numbers, and the padded ones among them
+    numbers: BTreeMap<(u8, usize), (u64, u64)>,
+    /// by kind: attributes read, and the marked ones among them
+    attributes: [(u64, u64); KINDS],
+    /// marked attributes by the form read in the end: by numbers that name a form, by its own number, by both
+    forms: BTreeMap<u64, [u64; 3]>,
+    /// without a mark: entries with a padded code, attributes with a padded name or form in the table, or constant
+    codes: u64,
+    pairs: u64,
+    constants: u64,
+}
+
+impl PaddedStats {
+    pub fn count(&mut self, kind: u8, x: &Padded) {
+        if let Some((used, fewer)) = x.number {
+            let n = self.numbers.entry((kind, used)).or_default();
+            n.0 += 1;
+            n.1 += fewer as u64;
+        }
+        let all = &mut self.attributes[kind as usize];
+        all.0 += x.attributes;
+        all.1 += x.marked.len() as u64;
+        for (form, named, own) in &x.marked {
+            self.forms.entry(*form).or_default()[*named as usize + 2 * *own as usize - 1] += 1;
+        }
+        self.codes += x.codes;
+        self.pairs += x.pairs;
+        self.constants += x.constants;
+    }
+
+    fn add(&mut self, other: &PaddedStats) {
+        for (key, (all, fewer)) in &other.numbers {
+            let n = self.numbers.entry(*key).or_default();
+            n.0 += all;
+            n.1 += fewer;
+        }
+        for (a, b) in self.attributes.iter_mut().zip(&other.attributes) {
+            a.0 += b.0;
+            a.1 += b.1;
+        }
+        for (form, counts) in &other.forms {
+            let own = self.forms.entry(*form).or_default();
+            own.iter_mut().zip(counts).for_each(|(a, b)| *a += b);
+        }
+        self.codes += other.codes;
+        self.pairs += other.pairs;
+        self.constants += other.constants;
+    }
+
+    /// What a run or a sample has to have and lacks: padded numbers of each length and others, marked attributes and
+    /// others from each function, marks by each form that has a number, and what does not count.
+    pub fn lacks(&self) -> Vec<String> {
+        let mut all = Vec::new();
+        for (kind, most) in [(ULEB, 10), (ULEB16, 3), (SLEB, 10)] {
+            for used in 1..=most {
+                let (n, fewer) = self.numbers.get(&(kind, used)).copied().unwrap_or_default();
+                if n == fewer || (used > 1 && fewer == 0) {
+                    all.push(format!("{}: of {n} numbers of {used} bytes {fewer} are padded", NAMES[kind as usize]));
+                }
+            }
+        }
+        for kind in [ENTRY, ATTRIBUTE, RAW, CURSOR, TREE, RAW_LENT, TYPE_ENTRY] {
+            let (n, marked) = self.attributes[kind as usize];
+            if n == marked || marked == 0 {
+                all.push(format!("{}: of {n} attributes {marked} are marked", NAMES[kind as usize]));
+            }
+        }
+        for form in crate::generate::NUMBERED {
+            let counts = self.forms.get(&(form as u64)).copied().unwrap_or_default();
+            if counts.contains(&0) {
+                all.push(format!("form {form:#x}: marked {counts:?} times by form numbers, its own, both"));
+            }
+        }
+        if [self.codes, self.pairs, self.constants].contains(&0) {
+            all.push("no padded code, or pair, or constant of a table without a mark".into());
+        }
+        all
+    }
+
+    pub fn report(&self) {
+        println!("padded numbers, of all with so many bytes");
+        for kind in [ULEB, ULEB16, SLEB] {
+            let own = self.numbers.iter().filter(|x| x.0.0 == kind);
+            let text: Vec<String> = own.map(|((_, used), (n, fewer))| format!("{used}: {fewer} of {n}")).collect();
+            println!("  {:20} {}", NAMES[kind as usize], text.join(", "));
+        }
+        println!("marked attributes, of all");
+        for k in 0..KINDS {
+            let (n, marked) = self.attributes[k];
+            if n != 0 {
+                println!("  {:20} {marked:>10} of {n:>10}", NAMES[k]);
+            }
+        }
+        let text: Vec<String> = self.forms.iter().map(|(f, [a, b, c])| format!("{f:#x} {a}+{b}+{c}")).collect();
+        println!("  by form (padded: numbers that name it + its own number or length + both)\n    {}", text.join(", "));
+        println!(
+            "  without a mark: {} entries with a padded code; {} attributes with a padded name or form in the table, \
+             {} with a padded constant",
+            self.codes, self.pairs, self.constants
+        );
+        for lack in self.lacks() {
+            println!("  not enough: {lack}");
         }
     }
 }
@@ -139,6 +258,9 @@ fn ask(case: &Case, x: &Answer, slack: usize, lent: &mut Lent) -> u64 {
     port::call(case, lent)
 }
 
+/// Said of a word that is not compared with gimli but with `rules`.
+const ADDED: &str = ", which gimli does not have";
+
 /// Where the port's answer is not what is expected.
 fn differs(case: &Case, x: &Answer, status: u64, lent: &Lent) -> Option<String> {
     if status != x.status {
@@ -148,13 +270,15 @@ fn differs(case: &Case, x: &Answer, status: u64, lent: &Lent) -> Option<String> 
         let expected = x.words.get(i).copied().unwrap_or(0);
         if *w != expected {
             let call = x.ends.iter().position(|e| i < *e);
-            return Some(match call {
+            let said = match call {
                 Some(c) => {
                     let from = if c == 0 { 0 } else { x.ends[c - 1] };
                     format!("call {c}, its word {}: {w}, expected {expected}", i - from)
                 }
                 None => format!("word {i}: {w}, expected {expected}"),
-            });
+            };
+            let is_added = x.added(case).contains(&i);
+            return Some(said + if is_added { ADDED } else { "" });
         }
     }
     if !(lent.out.is_kept() && lent.rows.is_kept() && lent.specs.is_kept() && lent.text.is_kept()) {
@@ -187,7 +311,9 @@ fn differs(case: &Case, x: &Answer, status: u64, lent: &Lent) -> Option<String> 
 /// The kind of a difference, without its numbers where there are many.
 fn key(case: &Case, said: &str) -> String {
     let name = NAMES[case.kind as usize];
-    let short = if said.starts_with("call ") {
+    let short = if said.ends_with(ADDED) && !matches!(case.kind, ULEB | ULEB16 | SLEB) {
+        "the mark of an attribute".to_string()
+    } else if said.starts_with("call ") {
         let word = said.split("its word ").nth(1).unwrap_or("");
         let which = word.split(':').next().unwrap_or("");
         match which.parse::<usize>() {
@@ -251,9 +377,18 @@ pub fn expected(case: &Case) -> Answer {
     caught(|| gimli_side::answer(case)).unwrap_or_else(panicked)
 }
 
-/// Changes one word of the port's answer.
-fn plant(rng: &mut Rng, case: &Case, status: &mut u64, lent: &mut Lent) {
+/// Changes one word of the port's answer; whether it is one that gimli does not have.
+fn plant(rng: &mut Rng, case: &Case, x: &Answer, status: &mut u64, lent: &mut Lent) -> bool {
     let change = 1 << rng.below(64);
+    let added = x.added(case);
+    if rng.percent(30) {
+        let lent_ones: Vec<usize> = added.iter().copied().filter(|i| *i < lent.out.len()).collect();
+        if !lent_ones.is_empty() {
+            // mostly the other mark
+            lent.out[rng.pick(&lent_ones)] ^= if rng.percent(70) { 1 } else { change };
+            return true;
+        }
+    }
     let parts = [1, lent.out.len(), lent.rows.len(), lent.specs.len(), lent.text.len()];
     let parts = match case.kind {
         TABLE | TYPE_ENTRY => &parts[..4],
@@ -267,20 +402,22 @@ fn plant(rng: &mut Rng, case: &Case, status: &mut u64, lent: &mut Lent) {
     }
     if i == 0 {
         *status ^= change;
-        return;
+        return false;
     }
     i -= 1;
+    let is_added = i < lent.out.len() && added.contains(&i);
     for list in [&mut lent.out, &mut lent.rows, &mut lent.specs] {
         if i < list.len() {
             list[i] ^= change;
-            return;
+            return is_added;
         }
         i -= list.len();
         if !case.fills() {
-            return;
+            return false;
         }
     }
     lent.text[i] ^= 1 << rng.below(8);
+    false
 }
 
 pub struct Comparer {
@@ -323,6 +460,7 @@ impl Comparer {
         self.stats.cases[k] += 1;
         self.stats.calls[k] += x.said.len().max(1) as u64;
         self.stats.jumps += x.jumps;
+        self.stats.padded.count(case.kind, &x.padded);
         self.stats.said[k][x.status.min(99) as usize] += x.said.is_empty() as u64;
         for n in &x.said {
             self.stats.said[k][(*n).min(99) as usize] += 1;
@@ -345,9 +483,14 @@ impl Comparer {
         if self.planting && self.rng.below(16) == 0 {
             // only an answer that is right before counts
             if differs(case, x, status, &self.lent).is_none() {
-                plant(&mut self.rng, case, &mut status, &mut self.lent);
+                let is_added = plant(&mut self.rng, case, x, &mut status, &mut self.lent);
+                let is_noticed = differs(case, x, status, &self.lent).is_some() as u64;
                 self.stats.planted[k].0 += 1;
-                self.stats.planted[k].1 += differs(case, x, status, &self.lent).is_some() as u64;
+                self.stats.planted[k].1 += is_noticed;
+                if is_added {
+                    self.stats.planted_added[k].0 += 1;
+                    self.stats.planted_added[k].1 += is_noticed;
+                }
                 return;
             }
         }

@@ -19,6 +19,9 @@ pub const FORMS: [u16; 47] = [
     0x28, 0x29, 0x2a, 0x2b, 0x2c, 0x1f01, 0x1f02, 0x1f20, 0x1f21,
 ];
 
+/// Those of them that have a LEB128 number of their own, a length among them.
+pub const NUMBERED: [u16; 11] = [0x09, 0x0d, 0x0f, 0x15, 0x18, 0x1a, 0x1b, 0x22, 0x23, 0x1f01, 0x1f02];
+
 const UNKNOWN_FORMS: [u16; 8] = [0x00, 0x02, 0x2d, 0x7f, 0x1f00, 0x1f03, 0x1f22, 0xffff];
 
 /// Names for which forms 06 and 07 can be a SecOffset, and some neighbours.
@@ -66,6 +69,28 @@ pub fn put_sleb(out: &mut Vec<u8>, mut v: i64) {
     }
 }
 
+/// In at least so many bytes, of which ten are the limit.
+pub fn put_sleb_padded(out: &mut Vec<u8>, v: i64, len: usize) {
+    let len = len.max(rules::shortest_signed(v));
+    for i in 0..len {
+        let digits = (v >> (7 * i).min(63)) as u8 & 0x7f;
+        out.push(digits | if i + 1 < len { 0x80 } else { 0 });
+    }
+}
+
+/// In so many of a hundred in more bytes than are needed, up to the limit.
+fn put_any_uleb(rng: &mut Rng, out: &mut Vec<u8>, v: u64, percent: usize, most: usize) {
+    let least = rules::shortest_unsigned(v);
+    let len = if least < most && rng.percent(percent) { rng.within(least + 1, most) } else { least };
+    put_uleb_padded(out, v, len);
+}
+
+fn put_any_sleb(rng: &mut Rng, out: &mut Vec<u8>, v: i64, percent: usize) {
+    let least = rules::shortest_signed(v);
+    let len = if least < 10 && rng.percent(percent) { rng.within(least + 1, 10) } else { least };
+    put_sleb_padded(out, v, len);
+}
+
 pub fn put_word(out: &mut Vec<u8>, v: u64, width: usize, is_big: bool) {
     let digits: Vec<u8> = (0..width).map(|i| if i < 8 { (v >> (8 * i)) as u8 } else { 0 }).collect();
     if is_big {
@@ -76,12 +101,7 @@ pub fn put_word(out: &mut Vec<u8>, v: u64, width: usize, is_big: bool) {
 }
 
 fn put_uleb16(rng: &mut Rng, out: &mut Vec<u8>, v: u16) {
-    if rng.percent(5) {
-        let len = rng.within(2, 3);
-        put_uleb_padded(out, v as u64, len);
-    } else {
-        put_uleb(out, v as u64);
-    }
+    put_any_uleb(rng, out, v as u64, 5, 3);
 }
 
 /// Flips bits, changes, cuts, leaves out or puts in bytes.
@@ -122,9 +142,25 @@ fn place(rng: &mut Rng, likely: usize, n: usize) -> u64 {
 
 // ---- numbers
 
+/// Some bytes of a number, and behind them nothing but a sign of either kind: the last pads it or nearly does, for the
+/// unsigned readers or the signed one.
+fn signs_behind(rng: &mut Rng) -> Vec<u8> {
+    let len = if rng.percent(30) { rng.within(1, 3) } else { rng.within(1, 10) };
+    let own = rng.within(1, len);
+    let mut b: Vec<u8> = (0..own).map(|_| rng.byte() | 0x80).collect();
+    b.resize(len, rng.pick(&[0x80, 0xff]));
+    b[len - 1] &= 0x7f;
+    b
+}
+
 fn leb_bytes(rng: &mut Rng) -> Vec<u8> {
     let mut b = Vec::new();
-    match rng.below(8) {
+    match rng.below(11) {
+        8 | 9 => b = signs_behind(rng),
+        10 => {
+            let v = rng.number() as i64;
+            put_any_sleb(rng, &mut b, v, 60)
+        }
         0 => put_uleb(&mut b, rng.number()),
         1 => {
             let len = rng.within(1, 12);
@@ -466,19 +502,14 @@ fn shape(rng: &mut Rng, code: u64) -> Shape {
 
 pub fn put_table(rng: &mut Rng, shapes: &[Shape], out: &mut Vec<u8>) {
     for s in shapes {
-        if rng.percent(4) {
-            let len = rng.within(2, 10);
-            put_uleb_padded(out, s.code, len);
-        } else {
-            put_uleb(out, s.code);
-        }
+        put_any_uleb(rng, out, s.code, 4, 10);
         put_uleb16(rng, out, s.tag);
         out.push(s.children as u8);
         for (name, form, constant) in &s.specs {
             put_uleb16(rng, out, *name);
             put_uleb16(rng, out, *form);
             if *form == 0x21 {
-                put_sleb(out, *constant);
+                put_any_sleb(rng, out, *constant, 30);
             }
         }
         out.extend([0, 0]);
@@ -628,13 +659,12 @@ pub fn put_value(rng: &mut Rng, form: u16, u: Unit, out: &mut Vec<u8>, wild: boo
         0x09 | 0x18 => {
             let n = if rng.percent(90) { rng.below(6) } else { rng.below(60) };
             let told = if wild && rng.percent(15) { u64::MAX - rng.below(300) as u64 } else { n as u64 };
-            let len = if rng.percent(5) { rng.within(2, 10) } else { 1 };
-            put_uleb_padded(out, told, len);
+            put_any_uleb(rng, out, told, 15, 10);
             out.extend((0..n).map(|_| rng.byte()));
         }
         0x0f | 0x15 | 0x1a | 0x1b | 0x22 | 0x23 | 0x1f01 | 0x1f02 => {
-            let len = if rng.percent(10) { rng.within(2, 10) } else { 1 };
-            put_uleb_padded(out, rng.number(), len);
+            let v = rng.number();
+            put_any_uleb(rng, out, v, 15, 10);
             if wild && rng.percent(5) {
                 let b = leb_bytes(rng);
                 out.extend(b);
@@ -645,7 +675,8 @@ pub fn put_value(rng: &mut Rng, form: u16, u: Unit, out: &mut Vec<u8>, wild: boo
                 let b = leb_bytes(rng);
                 out.extend(b);
             } else {
-                put_sleb(out, rng.number() as i64);
+                let v = rng.number() as i64;
+                put_any_sleb(rng, out, v, 20);
             }
         }
         0x08 => {
@@ -655,13 +686,14 @@ pub fn put_value(rng: &mut Rng, form: u16, u: Unit, out: &mut Vec<u8>, wild: boo
         }
         0x16 => {
             let inner = match rng.below(20) {
-                0 => 0x16,
+                0 | 3 => 0x16,
                 1 if wild => rng.pick(&UNKNOWN_FORMS),
                 2 if wild => 0x21,
+                4..=8 => rng.pick(&NUMBERED),
                 _ => rng.pick(&FORMS),
             };
             let inner = if inner == 0x21 && !wild { 0x0f } else { inner };
-            put_uleb16(rng, out, inner);
+            put_any_uleb(rng, out, inner as u64, 20, 3);
             put_value(rng, inner, u, out, wild);
         }
         _ => {
@@ -832,12 +864,7 @@ impl Builder<'_> {
         let shape = &self.shapes[s];
         let own = self.bytes.len();
         self.items.push(own);
-        if self.rng.percent(3) {
-            let len = self.rng.within(2, 10);
-            put_uleb_padded(&mut self.bytes, shape.code, len);
-        } else {
-            put_uleb(&mut self.bytes, shape.code);
-        }
+        put_any_uleb(self.rng, &mut self.bytes, shape.code, 6, 10);
         let first = self.patches.len();
         for (name, form, _) in &shape.specs {
             if *name == 1 && REFS.contains(form) && self.rng.percent(97) {
@@ -1037,7 +1064,8 @@ pub fn make_table(rng: &mut Rng, shapes: &[Shape], broken: &[u64], layout: Layou
             }
         }
     }
-    Some(Arc::new(Table { section, gimli, rows, specs, size }))
+    let padded = rules::padded_pairs(&rules::table(&section, 0, rules::NO_LIMITS).1);
+    Some(Arc::new(Table { section, gimli, rows, specs, size, padded }))
 }
 
 // ---- scripts

@@ -1,5 +1,6 @@
 //! The words of each answer from gimli, with document 01's added refusals where `rules` finds their
-//! conditions. An answer tells in `classes` where it is not gimli's own.
+//! conditions. An answer tells in `classes` where it is not gimli's own. Behind a number and in an attribute stand
+//! words that gimli does not have; they are those of `rules`, whose reading has to end where gimli's does.
 
 use crate::case::*;
 use crate::probe::{Placed, Probe, Seen, Slice, see};
@@ -76,7 +77,7 @@ fn plain(case: &Case) -> Answer {
     let b = &case.bytes[..];
     let at = case.n[0].min(b.len() as u64) as usize;
     let r = &mut EndianSlice::new(&b[at..], endian(case.is_big()));
-    let said = (|| {
+    let mut said = (|| {
         let mut words = match case.kind {
             ULEB => vec![r.read_uleb128()?],
             ULEB16 => vec![r.read_uleb128_u16()? as u64],
@@ -95,7 +96,24 @@ fn plain(case: &Case) -> Answer {
         words.push((b.len() - Reader::len(r)) as u64);
         Ok(words)
     })();
-    let answer = one(said);
+    let own = match case.kind {
+        ULEB => Some(rules::uleb(b, at).map(|(v, next)| (v, next, rules::shortest_unsigned(v)))),
+        ULEB16 => Some(rules::uleb16(b, at).map(|(v, next)| (v, next, rules::shortest_unsigned(v)))),
+        SLEB => Some(rules::sleb(b, at).map(|(z, next)| (z as u64, next, rules::shortest_signed(z)))),
+        _ => None,
+    };
+    let (mut padded, mut trouble) = (Padded::default(), None);
+    match (&mut said, own) {
+        (_, None) => {}
+        (Ok(words), Some(Ok((v, next, least)))) if words[..] == [v, next as u64] => {
+            let used = next - at;
+            words.extend([used as u64, (used > least) as u64]);
+            padded.number = Some((used, used > least));
+        }
+        (Err(e), Some(Err(n))) if number(e) == n => {}
+        _ => trouble = Some("the harness reads a number otherwise than gimli".into()),
+    }
+    let answer = Answer { padded, trouble, ..one(said) };
     if case.n[0] > b.len() as u64 {
         return answer.class(PAST_END);
     }
@@ -247,11 +265,30 @@ fn value_words<R: Reader<Offset = usize> + Placed>(v: &AttributeValue<R>, base: 
     words.extend([case, low, high]);
 }
 
+/// The bytes that entries are read from, from the offset `enc.start` of their unit on.
+struct Source<'a> {
+    bytes: &'a [u8],
+    enc: Enc,
+    /// what is padded in the table
+    pairs: &'a rules::Pairs,
+}
+
+impl Source<'_> {
+    /// Where the unit's offset 0 lies.
+    fn base(&self) -> usize {
+        (self.bytes.as_ptr() as usize).wrapping_sub(self.enc.start as usize)
+    }
+}
+
+/// The words of an entry or a null, behind which gimli goes on at the offset `end`.
 fn entry_words<R: Reader<Offset = usize> + Placed>(
     e: &DebuggingInformationEntry<R>,
     depth: i64,
-    base: usize,
+    source: &Source,
+    end: usize,
     words: &mut Vec<u64>,
+    padded: &mut Padded,
+    trouble: &mut Option<String>,
 ) {
     words.extend([
         e.offset().0 as u64,
@@ -260,9 +297,42 @@ fn entry_words<R: Reader<Offset = usize> + Placed>(
         e.has_children() as u64,
         e.attrs().len() as u64,
     ]);
-    for a in e.attrs() {
+    let (b, start) = (source.bytes, source.enc.start as usize);
+    let mut at = e.offset().0 - start;
+    let Ok((code, next)) = rules::uleb(b, at) else {
+        *trouble = Some("the harness reads no code where gimli does".into());
+        return;
+    };
+    let long_code = next - at > rules::shortest_unsigned(code);
+    at = next;
+    let pairs = source.pairs.get(&code);
+    let before = padded.marked.len();
+    for (i, a) in e.attrs().iter().enumerate() {
         words.extend([a.name().0 as u64, a.form().0 as u64]);
-        value_words(&a.raw_value(), base, words);
+        value_words(&a.raw_value(), source.base(), words);
+        let Some(read) = rules::attribute(b, at, a.form().0 as u64, &source.enc) else {
+            *trouble = Some("the harness does not read an attribute that gimli reads".into());
+            return;
+        };
+        at = read.next;
+        mark_word(&read, pairs.map_or((false, false), |p| p[i]), words, padded);
+    }
+    if start + at != end {
+        *trouble = Some(format!("the harness reads an entry up to {}, gimli up to {end}", start + at));
+    }
+    padded.codes += (long_code && padded.marked.len() == before) as u64;
+}
+
+/// The mark of an attribute, whose pair and constant are padded or not in the table.
+fn mark_word(read: &rules::Read, pair: (bool, bool), words: &mut Vec<u64>, padded: &mut Padded) {
+    padded.attributes += 1;
+    let is_marked = read.named || read.own;
+    words.push(is_marked as u64);
+    if is_marked {
+        padded.marked.push((read.form, read.named, read.own));
+    } else {
+        padded.pairs += pair.0 as u64;
+        padded.constants += pair.1 as u64;
     }
 }
 
@@ -300,12 +370,43 @@ fn attribute(case: &Case) -> Answer {
     match raw.read_attribute(spec) {
         Err(e) => Answer::refused(number(&e)),
         Ok(a) => {
-            let mut words = vec![raw.next_offset().0 as u64 - start, a.name().0 as u64, a.form().0 as u64];
+            let next = raw.next_offset().0 as u64 - start;
+            let mut words = vec![next, a.name().0 as u64, a.form().0 as u64];
             let base = (b.as_ptr() as usize).wrapping_sub(start as usize);
             value_words(&a.raw_value(), base, &mut words);
-            Answer::gave(words)
+            let mut answer = Answer::default();
+            let enc =
+                Enc { start, version: version as u16, is_64: is_64 != 0, width: width as u8, is_big: is_big != 0 };
+            match rules::attribute(b, at as usize, form, &enc) {
+                Some(read) if read.next as u64 == next => {
+                    mark_word(&read, (false, false), &mut words, &mut answer.padded)
+                }
+                _ => answer.trouble = Some("the harness reads an attribute otherwise than gimli".into()),
+            }
+            Answer { words, ..answer }
         }
     }
+}
+
+/// The words of an entry by its offset, from the bytes of a section from the unit on.
+fn single_entry(
+    h: &UnitHeader<Slice>,
+    e: &DebuggingInformationEntry<Slice>,
+    b: &[u8],
+    is_big: bool,
+    abbreviations: &Abbreviations,
+    pairs: &rules::Pairs,
+    a: &mut Answer,
+) -> Result<()> {
+    // it is read again, for the place behind it
+    let mut raw = h.entries_raw(abbreviations, Some(e.offset()))?;
+    raw.read_entry(&mut DebuggingInformationEntry::null())?;
+    let enc =
+        Enc { start: 0, version: h.version(), is_64: h.format() == Format::Dwarf64, width: h.address_size(), is_big };
+    let source = Source { bytes: &b[..h.length_including_self()], enc, pairs };
+    let end = raw.next_offset().0;
+    entry_words(e, e.depth() as i64, &source, end, &mut a.words, &mut a.padded, &mut a.trouble);
+    Ok(())
 }
 
 fn entry(case: &Case) -> Answer {
@@ -318,8 +419,7 @@ fn entry(case: &Case) -> Answer {
     let mut a = Answer::default();
     let said = info.header_from_offset(DebugInfoOffset(case.n[0] as usize)).and_then(|h| {
         let e = h.entry(&t.gimli, UnitOffset(case.n[1] as usize))?;
-        entry_words(&e, e.depth() as i64, b.as_ptr() as usize + case.n[0] as usize, &mut a.words);
-        Ok(())
+        single_entry(&h, &e, &b[case.n[0] as usize..], case.is_big(), &t.gimli, &t.padded, &mut a)
     });
     if let Err(e) = said {
         a.status = number_in(&e, t, &mut a.classes);
@@ -347,8 +447,8 @@ fn table(case: &Case) -> Answer {
         a.status = 1;
         return a.class(LONG_SECTION);
     }
-    if let Some((count, _)) = fill(&mut a, &case.bytes, case.n[0], case.lent) {
-        a.words.push(count);
+    if let Some((all, _)) = fill(&mut a, &case.bytes, case.n[0], case.lent) {
+        a.words.push(all.len() as u64);
     }
     a
 }
@@ -359,10 +459,15 @@ fn no_rows(case: &Case) -> Answer {
     Answer { rows: vec![[0; 5]; rows / 5], specs: vec![0; specs], ..Answer::default() }
 }
 
-/// Puts a table into the rows of an answer, or its refusal into the status; how many abbreviations there are.
+/// Puts a table into the rows of an answer, or its refusal into the status; the declarations in file order.
 /// The rows come from gimli's own; which codes there are, and their order, is the harness's own reading, which
 /// has to agree with gimli's in every case.
-fn fill(a: &mut Answer, b: &[u8], offset: u64, lent: (usize, usize)) -> Option<(u64, Abbreviations)> {
+fn fill(
+    a: &mut Answer,
+    b: &[u8],
+    offset: u64,
+    lent: (usize, usize),
+) -> Option<(Vec<rules::Declaration>, Abbreviations)> {
     let said =
         DebugAbbrev::from(EndianSlice::new(b, RunTimeEndian::Little)).abbreviations(DebugAbbrevOffset(offset as usize));
     let status = said.as_ref().map_or_else(number, |_| 0);
@@ -400,7 +505,7 @@ fn fill(a: &mut Answer, b: &[u8], offset: u64, lent: (usize, usize)) -> Option<(
         first += count;
     }
     a.rows.sort();
-    Some((all.len() as u64, abbreviations))
+    Some((all, abbreviations))
 }
 
 // ---- a type by its signature
@@ -448,16 +553,16 @@ fn type_entry(case: &Case) -> Answer {
         a.status = 19;
         return a;
     }
-    let Some((_, abbreviations)) = fill(&mut a, &case.second, h.debug_abbrev_offset().0 as u64, case.lent) else {
+    let Some((all, abbreviations)) = fill(&mut a, &case.second, h.debug_abbrev_offset().0 as u64, case.lent) else {
         return a;
     };
-    match h.entry(&abbreviations, offset) {
-        Err(e) => a.status = number(&e),
-        Ok(e) => {
-            header_words(&h, 0, &mut a.words, &mut a.trouble);
-            let base = case.bytes.as_ptr() as usize + h.offset().0;
-            entry_words(&e, e.depth() as i64, base, &mut a.words);
-        }
+    let said = h.entry(&abbreviations, offset).and_then(|e| {
+        header_words(&h, 0, &mut a.words, &mut a.trouble);
+        let pairs = rules::padded_pairs(&all);
+        single_entry(&h, &e, &case.bytes[h.offset().0..], case.is_big(), &abbreviations, &pairs, &mut a)
+    });
+    if let Err(e) = said {
+        a.status = number(&e);
     }
     a
 }
@@ -532,7 +637,7 @@ fn raw(case: &Case) -> Answer {
     let t = case.table.as_ref().unwrap();
     let enc = encoding(c.version, c.is_64, c.width);
     let mut r = RawAt::new(b, c.start as usize, enc, endian(c.is_big), &t.gimli);
-    let base = (b.as_ptr() as usize).wrapping_sub(c.start as usize);
+    let source = Source { bytes: b, enc: case.enc(), pairs: &t.padded };
     let mut e = DebuggingInformationEntry::null();
     let mut a = Answer::default();
     for op in &case.calls {
@@ -546,7 +651,8 @@ fn raw(case: &Case) -> Answer {
                     if is_entry == e.is_null() {
                         a.trouble = Some("read_entry and is_null differ".into());
                     }
-                    entry_words(&e, e.depth() as i64 + r.depth, base, &mut a.words);
+                    let (held, end) = (e.depth() as i64 + r.depth, r.start + at);
+                    entry_words(&e, held, &source, end, &mut a.words, &mut a.padded, &mut a.trouble);
                     0
                 }
                 Err(x) => {
@@ -647,7 +753,7 @@ fn cursor(case: &Case) -> Answer {
     } else {
         unit.entries_at_offset(&t.gimli, UnitOffset(start)).unwrap()
     };
-    let base = (b.as_ptr() as usize).wrapping_sub(start);
+    let source = Source { bytes: b, enc: case.enc(), pairs: &t.padded };
     let mut a = Answer::default();
     for op in &case.calls {
         if *op > 1 {
@@ -671,7 +777,8 @@ fn cursor(case: &Case) -> Answer {
                 if (e.offset(), e.depth()) != (cursor.offset(), cursor.depth()) {
                     a.trouble = Some("a cursor's entry stands elsewhere than the cursor".into());
                 }
-                entry_words(e, e.depth() as i64, base, &mut a.words)
+                let end = cursor.next_offset().0;
+                entry_words(e, e.depth() as i64, &source, end, &mut a.words, &mut a.padded, &mut a.trouble)
             }
         }
         a.end_call(status);
@@ -700,7 +807,7 @@ struct Walk<'a> {
     table: &'a Table,
     bytes: &'a [u8],
     start: usize,
-    base: usize,
+    source: Source<'a>,
     enc: Encoding,
     endian: RunTimeEndian,
     /// a call chosen, to be made further up
@@ -763,7 +870,8 @@ impl Walk<'_> {
         self.jumps = jumps(e, raw.next_offset().0, self.start + self.bytes.len());
         self.seen = seen;
         self.held.clear();
-        entry_words(e, e.depth() as i64, self.base, &mut self.held);
+        let (end, a) = (raw.next_offset().0, &mut self.a);
+        entry_words(e, e.depth() as i64, &self.source, end, &mut self.held, &mut a.padded, &mut a.trouble);
     }
 
     /// No entry was reached: what the tree holds now is a null, or still the entry it held.
@@ -838,7 +946,7 @@ pub fn tree(case: &Case, chooser: &mut dyn Chooser) -> (Answer, Vec<u64>) {
         table: t,
         bytes: b,
         start,
-        base: (b.as_ptr() as usize).wrapping_sub(start),
+        source: Source { bytes: b, enc: case.enc(), pairs: &t.padded },
         enc,
         endian: endian(c.is_big),
         pending: None,

@@ -1,7 +1,7 @@
 //! The inputs of gimli's own tests (read/unit.rs, read/abbrev.rs) and document 01's readings.
 
 use crate::case::*;
-use crate::generate::{Head, put_sleb, put_uleb};
+use crate::generate::{Head, NUMBERED, put_sleb, put_sleb_padded, put_uleb, put_uleb_padded};
 use gimli::{DebugAbbrev, DebugAbbrevOffset, EndianSlice, RunTimeEndian};
 use std::sync::Arc;
 
@@ -20,7 +20,8 @@ pub fn table_of(section: &[u8]) -> Option<Arc<Table>> {
         specs.extend(d.specs.iter().flatten());
     }
     let size = specs.len() / 3;
-    Some(Arc::new(Table { section: section.to_vec(), gimli, rows, specs, size }))
+    let padded = crate::rules::padded_pairs(&all);
+    Some(Arc::new(Table { section: section.to_vec(), gimli, rows, specs, size, padded }))
 }
 
 fn case(kind: u8, bytes: &[u8], n: &[u64]) -> Case {
@@ -227,6 +228,139 @@ fn values(all: &mut Vec<Case>) {
             }
         }
     }
+}
+
+/// A value of one of the numbered forms, its number in at least so many bytes.
+fn numbered(form: u16, len: usize) -> Vec<u8> {
+    let mut b = Vec::new();
+    match form {
+        0x09 | 0x18 => {
+            put_uleb_padded(&mut b, 2, len);
+            b.extend([0x80, 0]);
+        }
+        0x0d => put_sleb_padded(&mut b, -3, len),
+        _ => put_uleb_padded(&mut b, 3, len),
+    }
+    b
+}
+
+/// Single attributes of which a number is padded, and such of which only bytes look like it.
+fn padded_values(all: &mut Vec<Case>) {
+    let mut put = |form: u16, parts: &[&[u8]]| {
+        all.push(case(ATTRIBUTE, &parts.concat(), &[11, 0, 4, 0, 4, 0, 0x11, form as u64, 7]));
+    };
+    for (i, form) in NUMBERED.into_iter().enumerate() {
+        let mut named = Vec::new();
+        put_uleb_padded(&mut named, form as u64, 2 + (form < 0x80 && i % 2 == 0 || form > 0x80) as usize);
+        put(form, &[&numbered(form, 2 + i % 9)]);
+        put(0x16, &[&named, &numbered(form, 1)]);
+        put(0x16, &[&named, &numbered(form, 10 - i % 9)]);
+    }
+    let nine = |fill: u8, last: u8| [&[fill; 9][..], &[last]].concat();
+    let singles: [(u16, &[u8]); 38] = [
+        // chains: the first link, a middle one, the last, all, none
+        (0x16, &[0x96, 0, 0x0f, 5]),
+        (0x16, &[0x16, 0x96, 0x80, 0, 0x16, 0x0f, 5]),
+        (0x16, &[0x16, 0x8f, 0, 5]),
+        (0x16, &[0x96, 0x80, 0, 0x8f, 0, 0x85, 0]),
+        (0x16, &[0x16, 0x16, 0x0f, 5]),
+        // forms without a number of their own
+        (0x16, &[0x8b, 0, 7]),
+        (0x16, &[0x99, 0]),
+        (0x16, &[0x88, 0, 0x61, 0]),
+        (0x16, &[0x8a, 0x80, 0, 1, 0xff]),
+        (0x16, &[0x81, 0, 1, 2, 3, 4]),
+        (0x16, &[0x90, 0, 1, 2, 3, 4]),
+        (0x16, &[0xa0, 0xbe, 0, 1, 2, 3, 4]),
+        (0x16, &[0xa0, 0x3e, 1, 2, 3, 4]),
+        (0x16, &[0x96, 0, 0x9e, 0, 1, 2, 3, 4, 5, 6, 7, 8, 9, 10, 11, 12, 13, 14, 15, 16]),
+        // refused: form 0x21 in a chain, an unknown form, a name too long, no value
+        (0x16, &[0xa1, 0, 0]),
+        (0x16, &[0xa1, 0x80, 0, 0]),
+        (0x16, &[0x96, 0, 0x21]),
+        (0x16, &[0xff, 0]),
+        (0x16, &[0x8f, 0x80, 0x80, 0, 5]),
+        (0x16, &[0x8f, 0, 0x80]),
+        // no numbers, or numbers of fixed width
+        (0x21, &[0x80, 0]),
+        (0x05, &[0x80, 0]),
+        (0x06, &[0x80, 0x80, 0x80, 0]),
+        (0x0a, &[2, 0x80, 0]),
+        (0x03, &[2, 0, 0x80, 0]),
+        (0x04, &[2, 0, 0, 0, 0x80, 0]),
+        (0x08, &[0x80, 0]),
+        (0x16, &[0x0a, 2, 0x80, 0]),
+        // signed numbers whose last byte is 0 or 0x7f
+        (0x0d, &[0xff, 0]),
+        (0x0d, &[0x80, 0x7f]),
+        (0x0d, &[0xbf, 0]),
+        (0x0d, &[0xff, 0x7f]),
+        (0x0d, &nine(0x80, 0x7f)),
+        (0x0d, &nine(0xff, 0x7f)),
+        (0x0d, &nine(0xff, 0)),
+        // and the longest unsigned ones
+        (0x0f, &[0xff, 0]),
+        (0x0f, &nine(0xff, 1)),
+        (0x0f, &nine(0xff, 0)),
+    ];
+    for (form, b) in singles {
+        put(form, &[b]);
+    }
+}
+
+/// Entries with marked attributes and without. Codes, nulls, names, forms and a constant of the table are padded too.
+fn padded_entries(all: &mut Vec<Case>) {
+    let table = [
+        &[1, 0x11, 1, 0x83, 0, 0x0f, 0x49, 0x16, 2, 0x98, 0, 0, 0][..],
+        &[0x82, 0, 0xb4, 0, 0, 0x0b, 0x0d, 3, 8, 0x1c, 0x21, 0xfb, 0x7f, 0x1c, 0xa1, 0, 0x7b, 0, 0],
+        &[3, 0x2e, 1, 1, 0x15, 3, 9, 0, 0, 0],
+    ]
+    .concat();
+    let first: &[u8] = &[0x81, 0, 5, 0x0f, 7, 1, 0xff];
+    let named: &[u8] = &[3, 0xff, 0x80, 0, 0x81, 0, 0xaa];
+    let inner: [&[u8]; 2] = [&[2, 0xff, 0, 0x61, 0], &[0x82, 0x80, 0, 0xff, 0x7f, 0x80, 0]];
+    let nulls: &[u8] = &[0x80, 0];
+    let second: &[u8] = &[1, 0x85, 0, 0x96, 0, 0x8f, 0x80, 0, 7, 1, 0x80];
+    let third: &[u8] = &[0x81, 0x80, 0, 5, 0x8b, 0, 7, 0x82, 0, 1, 2];
+    let parts = [first, named, inner[0], inner[1], &[0], second, inner[1], nulls, third, nulls, &[0]];
+    let offsets: Vec<u64> = (0..parts.len()).map(|i| parts[..i].concat().len() as u64).collect();
+    let mut b = parts.concat();
+    // the sibling of the second entry
+    let at = offsets[1] as usize + 1;
+    b[at] = 0x80 | (11 + offsets[5]) as u8;
+    let t = table_of(&table).unwrap();
+    for is_big in [false, true] {
+        let h = Head { is_big, ..V4 };
+        let scripts: [(u8, &[u64]); 8] = [
+            (RAW, &[0; 12]),
+            (RAW, &[1, 0, 1, 0, 0, 0, 1, 0, 0, 0]),
+            (CURSOR, &[0; 12]),
+            (CURSOR, &[1; 8]),
+            (CURSOR, &[1, 1, 2, 2, 2]),
+            (TREE, &[0, 1, 2, 2, 2, 1, 2, 2, 1, 2, 1]),
+            (TREE, &[0, 1, 1, 1, 1]),
+            (TREE, &[0, 1, 2, 0, 1, 1, 2]),
+        ];
+        for (kind, calls) in scripts {
+            let mut c = case(kind, &b, &[11, 4, 0, 4, is_big as u64]).with(&t);
+            c.calls = calls.to_vec();
+            all.push(c);
+        }
+        let unit = h.unit(&b, 0);
+        for (i, offset) in offsets.iter().enumerate() {
+            if i % 2 == is_big as usize || i == 5 {
+                all.push(case(ENTRY, &unit, &[0, 11 + offset, is_big as u64]).with(&t));
+            }
+        }
+        for i in [1, 3, 5, 8, 9] {
+            let h = Head { is_big, ..TYPED };
+            let type_offset = h.size() as u64 + offsets[i];
+            let mut c = search(&Head { type_offset, ..h }.unit(&b, 0), &table, 7);
+            c.n[1] = is_big as u64;
+            all.push(c);
+        }
+    }
+    all.push(table_case(&table, 0));
 }
 
 fn headers(all: &mut Vec<Case>) {
@@ -556,7 +690,9 @@ fn numbers(all: &mut Vec<Case>) {
         vec![0x80, 0x80, 0x83, 0],
         vec![0x80, 0x80, 0],
     ];
-    for (last, fill) in [(1, 0xff), (2, 0xff), (0, 0x80), (0x7f, 0x80), (1, 0x80), (0x7f, 0xff), (0x80, 0x80)] {
+    for (last, fill) in
+        [(1, 0xff), (2, 0xff), (0, 0x80), (0x7f, 0x80), (1, 0x80), (0x7f, 0xff), (0x80, 0x80), (0, 0xff)]
+    {
         inputs.push(nine(last, fill));
     }
     inputs.push(vec![0x80; 12]);
@@ -584,6 +720,95 @@ fn numbers(all: &mut Vec<Case>) {
             }
         }
     }
+}
+
+/// Numbers padded and not, of every length.
+fn padded_numbers(all: &mut Vec<Case>) {
+    // what pads an unsigned number need not pad a signed one
+    for b in
+        [&[0][..], &[0x80, 0], &[0xbf, 0], &[0xc0, 0], &[0xbf, 0x7f], &[0xc0, 0x7f], &[0xff, 0x7f], &[0xff, 0xff, 0]]
+    {
+        for kind in [ULEB, ULEB16, SLEB] {
+            all.push(case(kind, b, &[0]));
+        }
+    }
+    for len in 2..=10 {
+        let list = |first: u8, fill: u8, before: u8, last: u8| {
+            let mut b = vec![fill; len];
+            (b[0], b[len - 2], b[len - 1]) = (first, before, last);
+            b
+        };
+        let kinds = if len <= 3 { &[ULEB, ULEB16][..] } else { &[ULEB] };
+        for kind in kinds {
+            let before = if len == 2 { 0x85 } else { 0x80 };
+            all.push(case(*kind, &list(0x85, 0x80, before, 0), &[0]));
+            all.push(case(*kind, &list(0x85, 0x80, before, 1), &[0]));
+        }
+        // the last byte repeats the sign, and is the sign
+        let signed =
+            if len % 2 == 0 { [(0x80, 0xbf, 0), (0x80, 0xc0, 0)] } else { [(0xff, 0xc0, 0x7f), (0xff, 0xbf, 0x7f)] };
+        for (fill, before, last) in signed {
+            all.push(case(SLEB, &list(fill, fill, before, last), &[0]));
+        }
+    }
+}
+
+/// Lists whose shortest length is known from how they are made: bytes of which the last is needed, then a sign.
+fn spelled(all: &mut Vec<Case>) {
+    for (kind, most) in [(ULEB, 10), (ULEB16, 3), (SLEB, 10)] {
+        for own in 1..=most {
+            let is_last = own == most;
+            // the last digit that counts, what the ones below it are, and whether the number is negative
+            let ends: Vec<(u8, u8, bool)> = match kind {
+                ULEB if is_last => vec![(1, 0, false), (1, 0x7f, false)],
+                ULEB16 if is_last => vec![(1, 0, false), (2, 0x7f, false), (3, 0x7f, false)],
+                SLEB if is_last => vec![(0, 0x40, false), (0, 0x7f, false), (0x7f, 0, true), (0x7f, 0x3f, true)],
+                SLEB if own == 1 => {
+                    vec![(0, 0, false), (1, 0, false), (0x3f, 0, false), (0x40, 0, true), (0x7f, 0, true)]
+                }
+                SLEB => vec![
+                    (0, 0x40, false),
+                    (0, 0x7f, false),
+                    (1, 0, false),
+                    (0x3f, 0x7f, false),
+                    (0x40, 0, true),
+                    (0x7e, 0x7f, true),
+                    (0x7f, 0x3f, true),
+                    (0x7f, 0, true),
+                ],
+                _ if own == 1 => vec![(0, 0, false), (1, 0, false), (0x40, 0, false), (0x7f, 0, false)],
+                _ => vec![(1, 0, false), (0x3f, 0x7f, false), (0x40, 0, false), (0x7f, 0x7f, false)],
+            };
+            for (top, below, negative) in ends {
+                for len in own..=most {
+                    let mut b = vec![0x80 | below; own];
+                    b[own - 1] = 0x80 | top;
+                    b.resize(len, if negative { 0xff } else { 0x80 });
+                    b[len - 1] &= 0x7f;
+                    b.push(0x80);
+                    let c = case(kind, &b, &[0]);
+                    let x = crate::compare::expected(&c);
+                    assert_eq!(x.words[1..], [len as u64, len as u64, (len > own) as u64], "{}", c.describe());
+                    all.push(c);
+                }
+            }
+        }
+    }
+}
+
+/// For a run alone: every list of one and two bytes, and `spelled`.
+pub fn more() -> Vec<Case> {
+    let mut all = Vec::new();
+    spelled(&mut all);
+    for kind in [ULEB, ULEB16, SLEB] {
+        for b in 0..0x80 {
+            all.push(case(kind, &[b], &[0]));
+            for first in 0x80..=0xff {
+                all.push(case(kind, &[first, b], &[0]));
+            }
+        }
+    }
+    all
 }
 
 /// Raw runs, cursors and trees over a part of a unit.
@@ -727,11 +952,14 @@ fn entries(all: &mut Vec<Case>) {
 pub fn cases() -> Vec<Case> {
     let mut all = Vec::new();
     numbers(&mut all);
+    padded_numbers(&mut all);
     headers(&mut all);
     type_headers(&mut all);
     tables(&mut all);
     types(&mut all);
     values(&mut all);
+    padded_values(&mut all);
     entries(&mut all);
+    padded_entries(&mut all);
     all
 }

@@ -156,12 +156,20 @@ fn main() {
     if !port::PRESENT {
         println!("built without the port: only gimli's side runs, and nothing is compared");
     }
+    // the model's own lengths, against a search
+    match rules::search_shortest(3) {
+        Ok(n) => println!("numbers' shortest lengths: as found among {n} lists of up to 3 bytes, by each reader"),
+        Err(what) => {
+            println!("numbers' shortest lengths: {what}");
+            std::process::exit(1)
+        }
+    }
     let mut all = Stats::default();
     // what is known, and the sizes themselves
     all.add(&spread(1, 1, &|_| {
         let mut c = comparer(&o, 0);
-        for case in known::cases() {
-            c.put(&case, None);
+        for case in known::cases().iter().chain(&known::more()) {
+            c.put(case, None);
         }
         generate::long_sections(&mut |case, x| {
             c.put(&case, x);

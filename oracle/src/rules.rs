@@ -1,5 +1,8 @@
-//! Document 01's added refusals, recomputed from the inputs alone. Nothing here asks gimli or the
-//! port, so that a listed difference is let through only where its condition holds.
+//! Document 01's added refusals and the words that gimli does not have, recomputed from the inputs alone. Nothing here
+//! asks gimli or the port, so that a listed difference is let through only where its condition holds.
+
+use crate::case::Enc;
+use std::collections::HashMap;
 
 pub const MAX_SECTION: usize = (1 << 31) - 1;
 
@@ -71,6 +74,103 @@ pub fn skip_leb(b: &[u8], mut at: usize) -> Result<usize, u64> {
     }
 }
 
+// ---- padded numbers, by the definition: a shorter list of bytes is read to the same number
+
+/// The bytes of the shortest list for an unsigned number: its bits by sevens.
+pub fn shortest_unsigned(v: u64) -> usize {
+    (64 - v.leading_zeros()).div_ceil(7).max(1) as usize
+}
+
+/// The same of a signed one: the least k with -2^(7k-1) <= z < 2^(7k-1).
+pub fn shortest_signed(z: i64) -> usize {
+    let holds = |k: &usize| {
+        let half = 1i128 << (7 * k - 1);
+        (-half..half).contains(&(z as i128))
+    };
+    (1..).find(holds).unwrap()
+}
+
+/// Reads every list of up to `most` bytes, by rising length; a number's first list has to have the length above. How
+/// many lists there are for each reader, or the first number for which it is otherwise.
+pub fn search_shortest(most: usize) -> Result<u64, String> {
+    type Reading = fn(&[u8]) -> Option<(u64, usize)>;
+    let readers: [Reading; 3] = [
+        |b| uleb(b, 0).ok().map(|(v, _)| (v, shortest_unsigned(v))),
+        |b| uleb16(b, 0).ok().map(|(v, _)| (v, shortest_unsigned(v))),
+        |b| sleb(b, 0).ok().map(|(z, _)| (z as u64, shortest_signed(z))),
+    ];
+    for read in readers {
+        let mut seen = std::collections::HashSet::new();
+        for len in 1..=most {
+            for digits in 0..1u64 << (7 * len) {
+                let mut b = [0x80; 10];
+                b.iter_mut().enumerate().for_each(|(i, x)| *x |= (digits >> (7 * i)) as u8 & 0x7f);
+                b[len - 1] &= 0x7f;
+                if let Some((v, least)) = read(&b[..len])
+                    && seen.insert(v)
+                    && least != len
+                {
+                    return Err(format!("{v:#x} in {len} bytes, not {least}"));
+                }
+            }
+        }
+    }
+    Ok((1..=most).map(|len| 1 << (7 * len)).sum())
+}
+
+/// An attribute as it lies in the bytes.
+pub struct Read {
+    /// the place behind it
+    pub next: usize,
+    /// the form that its form is in the end
+    pub form: u64,
+    /// whether a number that names a form is padded
+    pub named: bool,
+    /// whether the number or the length that its value has is padded
+    pub own: bool,
+}
+
+/// An attribute that gimli reads; None where there are too few bytes, or no such form, so that both disagree.
+pub fn attribute(b: &[u8], mut at: usize, mut form: u64, c: &Enc) -> Option<Read> {
+    let mut named = false;
+    while form == 0x16 {
+        let (inner, next) = uleb16(b, at).ok()?;
+        named |= next - at > shortest_unsigned(inner);
+        (form, at) = (inner, next);
+    }
+    let mut own = false;
+    let len = match form {
+        0x0a | 0x03 | 0x04 => {
+            let width = count_width(form);
+            let n = count(b, at, width, c.is_big)?;
+            at += width;
+            n
+        }
+        0x09 | 0x18 => {
+            let (n, next) = uleb(b, at).ok()?;
+            own = next - at > shortest_unsigned(n);
+            at = next;
+            n
+        }
+        0x0f | 0x15 | 0x1a | 0x1b | 0x22 | 0x23 | 0x1f01 | 0x1f02 => {
+            let (v, next) = uleb(b, at).ok()?;
+            own = next - at > shortest_unsigned(v);
+            at = next;
+            0
+        }
+        0x0d => {
+            let (z, next) = sleb(b, at).ok()?;
+            own = next - at > shortest_signed(z);
+            at = next;
+            0
+        }
+        0x08 => b.get(at..)?.iter().position(|x| *x == 0)? as u64 + 1,
+        _ => size(form, c.version, c.is_64, c.width)?,
+    };
+    let next = at as u128 + len as u128;
+    (next <= b.len() as u128).then_some(Read { next: next as usize, form, named, own })
+}
+
 // ---- tables
 
 #[derive(Clone)]
@@ -80,6 +180,16 @@ pub struct Declaration {
     pub children: u64,
     /// name, form, constant in two's complement
     pub specs: Vec<[u64; 3]>,
+    /// of each whether its name or form is padded, and whether its constant is
+    pub padded: Vec<(bool, bool)>,
+}
+
+/// By code what is padded in a table, where something is.
+pub type Pairs = HashMap<u64, Vec<(bool, bool)>>;
+
+pub fn padded_pairs(all: &[Declaration]) -> Pairs {
+    let some = all.iter().filter(|d| d.padded.iter().any(|p| p.0 || p.1));
+    some.map(|d| (d.code, d.padded.clone())).collect()
 }
 
 /// Pairs of an abbreviation, rows and specification rows at most.
@@ -109,14 +219,15 @@ fn declaration(b: &[u8], at: &mut usize, pairs: usize) -> Result<Option<Declarat
         return Err(10);
     }
     *at = next + 1;
-    let mut specs = Vec::new();
+    let (mut specs, mut padded) = (Vec::new(), Vec::new());
     loop {
-        let (name, next) = uleb16(b, *at)?;
+        let from = *at;
+        let (name, next) = uleb16(b, from)?;
         let (form, next) = uleb16(b, next)?;
         match (name, form) {
             (0, 0) => {
                 *at = next;
-                return Ok(Some(Declaration { code, tag, children, specs }));
+                return Ok(Some(Declaration { code, tag, children, specs, padded }));
             }
             (0, _) => return Err(11),
             (_, 0) => return Err(12),
@@ -125,9 +236,13 @@ fn declaration(b: &[u8], at: &mut usize, pairs: usize) -> Result<Option<Declarat
         if specs.len() == pairs {
             return Err(13);
         }
-        let (constant, next) = if form == 0x21 { sleb(b, next)? } else { (0, next) };
-        *at = next;
+        let (constant, end) = if form == 0x21 { sleb(b, next)? } else { (0, next) };
+        *at = end;
         specs.push([name, form, constant as u64]);
+        padded.push((
+            next - from > shortest_unsigned(name) + shortest_unsigned(form),
+            form == 0x21 && end - next > shortest_signed(constant),
+        ));
     }
 }
 
@@ -213,6 +328,22 @@ fn size(form: u64, version: u16, is_64: bool, width: u8) -> Option<u64> {
     })
 }
 
+/// The bytes of the count of a block of form 0x0a, 0x03 or 0x04; 0 for other forms.
+fn count_width(form: u64) -> usize {
+    match form {
+        0x0a => 1,
+        0x03 => 2,
+        0x04 => 4,
+        _ => 0,
+    }
+}
+
+fn count(b: &[u8], at: usize, width: usize, is_big: bool) -> Option<u64> {
+    let part = b.get(at..)?.get(..width)?;
+    let digit = |n: u64, x: &u8| n << 8 | *x as u64;
+    Some(if is_big { part.iter().fold(0, digit) } else { part.iter().rev().fold(0, digit) })
+}
+
 /// Whether the sum of sizes in gimli's skip_attributes reaches 2^64 before anything else is refused.
 pub fn skip_wraps(
     b: &[u8],
@@ -238,19 +369,10 @@ pub fn skip_wraps(
             }
             at += sum as usize;
             sum = 0;
-            let fixed = match form {
-                0x0a => 1,
-                0x03 => 2,
-                0x04 => 4,
-                _ => 0,
-            };
+            let fixed = count_width(form);
             if fixed != 0 {
-                if b.len() - at < fixed {
-                    return false;
-                }
-                let part = &b[at..at + fixed];
-                let digit = |n: u128, x: &u8| n << 8 | *x as u128;
-                sum = if is_big { part.iter().fold(0, digit) } else { part.iter().rev().fold(0, digit) };
+                let Some(n) = count(b, at, fixed, is_big) else { return false };
+                sum = n as u128;
                 at += fixed;
                 break;
             }

@@ -1,7 +1,8 @@
-//! Cases with gimli's answers as data, for a program that replays them. The format is in README.md.
+//! Cases with gimli's answers as data, the words of `rules` in them, for a program that replays them. The format is in
+//! README.md.
 
 use crate::case::*;
-use crate::compare::expected;
+use crate::compare::{PaddedStats, expected};
 use crate::generate;
 use crate::known;
 use crate::port::{self, Lent};
@@ -102,6 +103,14 @@ fn marks(case: &Case, x: &Answer) -> Vec<(u8, u64, u64)> {
             m.push((case.kind, x.words[3], 5));
         }
     }
+    if let Some((used, fewer)) = x.padded.number {
+        m.push((case.kind, used as u64, 7 + fewer as u64));
+    }
+    for (form, named, own) in &x.padded.marked {
+        // single attributes by their forms too
+        let form = if case.kind == ATTRIBUTE { 4 * form } else { 0 };
+        m.push((case.kind, form + 2 * *named as u64 + *own as u64, 9));
+    }
     let header = match case.kind {
         HEADER | TYPE_ENTRY => &x.words[..],
         TYPES_NEXT => x.words.get(2..).unwrap_or(&[]),
@@ -136,6 +145,7 @@ struct Taken {
     forms: BTreeSet<u64>,
     skipped: BTreeSet<u64>,
     orders: BTreeSet<(u8, bool)>,
+    padded: PaddedStats,
     seen: std::collections::HashSet<Vec<u8>>,
 }
 
@@ -165,6 +175,7 @@ impl Taken {
             self.of_types.insert(x.status);
         }
         self.orders.insert((case.kind, case.is_big()));
+        self.padded.count(case.kind, &x.padded);
         if case.kind == ATTRIBUTE && x.status == 0 {
             self.forms.insert(case.n[7]);
         }
@@ -220,7 +231,7 @@ pub fn write(path: &str, count: usize, seed: u64) -> std::io::Result<bool> {
             generate::scene(&mut rng, &mut sink);
         }
     }
-    let Taken { out, kinds, statuses, of_types, forms, skipped, orders, .. } = take;
+    let Taken { out, kinds, statuses, of_types, forms, skipped, orders, padded, .. } = take;
     let mut f = std::io::BufWriter::new(std::fs::File::create(path)?);
     for b in &out {
         f.write_all(b)?;
@@ -266,7 +277,8 @@ pub fn write(path: &str, count: usize, seed: u64) -> std::io::Result<bool> {
             }
         }
     }
-    Ok(good)
+    padded.report();
+    Ok(good && padded.lacks().is_empty())
 }
 
 /// Reads little-endian numbers.
@@ -318,7 +330,8 @@ fn replay_one(b: &[u8]) -> Option<bool> {
             return Some(false);
         }
         let (rows, specs) = (lent.rows.to_vec(), lent.specs.to_vec());
-        case.table = Some(Arc::new(Table { section, gimli: Default::default(), rows, specs, size: 0 }));
+        let table = Table { section, gimli: Default::default(), rows, specs, size: 0, padded: Default::default() };
+        case.table = Some(Arc::new(table));
     }
     lent.out.renew(MOST_WORDS);
     let status = port::call(&case, &mut lent);

@@ -20,9 +20,9 @@ use reader::answer::Word;
 use reader::common::MAX_SECTION;
 use reader::error::Error;
 use reader::fill::clear_words;
-use reader::leb128::read_sleb128;
-use reader::leb128::read_uleb128;
-use reader::leb128::read_uleb128_u16;
+use reader::leb128::sleb128;
+use reader::leb128::uleb128;
+use reader::leb128::uleb128_u16;
 use reader::twos::to_word;
 use reader::words::read_u8;
 
@@ -87,8 +87,8 @@ fn judge(name: u64, form: u64, next: usize) -> Pair
 fn parse_pair(s: &[u8], at: usize) -> Pair
     ensures { λ r. ⌜ viewPair r ≡ pairAt (now (s .entry)) at ⌝ }
 {
-    match read_uleb128_u16(s, at) {
-        Word::Got(name, p) => match read_uleb128_u16(s, p) {
+    match uleb128_u16(s, at) {
+        Word::Got(name, p) => match uleb128_u16(s, p) {
             Word::Got(form, q) => judge(name, form, q),
             Word::Refused(e) => Pair::Refused(e),
         },
@@ -100,7 +100,7 @@ fn parse_constant(s: &[u8], at: usize, form: u64) -> Word
     ensures { λ r. ⌜ viewWord r ≡ constantAt (now (s .entry)) at form ⌝ }
 {
     if form == IMPLICIT_CONST {
-        match read_sleb128(s, at) {
+        match sleb128(s, at) {
             SignedWord::Got(z, p) => Word::Got(to_word(z), p),
             SignedWord::Refused(e) => Word::Refused(e),
         }
@@ -112,7 +112,7 @@ fn parse_constant(s: &[u8], at: usize, form: u64) -> Word
 fn parse_tag(s: &[u8], at: usize) -> Word
     ensures { λ r. ⌜ viewWord r ≡ tagAt (now (s .entry)) at ⌝ }
 {
-    match read_uleb128_u16(s, at) {
+    match uleb128_u16(s, at) {
         Word::Got(tag, p) => {
             if tag == 0 {
                 return Word::Refused(Error::AbbreviationTagZero);
@@ -155,7 +155,7 @@ fn parse_head(s: &[u8], at: usize) -> Head
     if s.len() <= at {
         return Head::End;
     }
-    match read_uleb128(s, at) {
+    match uleb128(s, at) {
         Word::Got(code, p) => {
             if code == 0 {
                 return Head::End;

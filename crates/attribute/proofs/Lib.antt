@@ -2,6 +2,8 @@
 pub mod FormLaws
 pub mod ListLaws
 pub mod ReadLaws
+pub mod PaddedLaws
 pub mod ValueLaws
+pub mod MarkLaws
 pub mod PrefixLaws
 pub mod LateLaws

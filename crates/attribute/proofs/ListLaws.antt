@@ -19,7 +19,8 @@ use Rattle.abbrev.specs.Lookup.{Found, specAt, specsFrom, fair, keepsSizes, dec
 use Rattle.abbrev.specs.Table.{Specification, entryLimit}
 use Rattle.abbrev.proofs.Lookups.{length-specs, specs-nth, spec-drop, fair-nth, kept}
 use Rattle.attribute.specs.Attributes.{keepsPlace, readAttributes, skipAttributes, filler, pad}
-use Rattle.attribute.specs.Read.{formAt, attributeAt, attributesAt}
+use Rattle.attribute.specs.Padded.{anyPadded}
+use Rattle.attribute.specs.Read.{formAt, attribute, numbersAt, attributeAt, attributesAt}
 use Rattle.attribute.specs.Skip.{pastValue, pastValues}
 use Rattle.attribute.specs.Steps.{Within, Listed}
 use Rattle.attribute.specs.Value.{Attribute, valueUnder}
@@ -44,7 +45,7 @@ no-spec count l i h = drop-of-length-le (specsFrom count l) {i = i} (omega (arit
 
 -- an attribute of the code whose view is the filler
 abbrev pub nothing : declared-attribute.Attribute
-nothing = record { name = 0; form = 0; value = Flag false }
+nothing = record { name = 0; form = 0; padded = false; value = Flag false }
 
 pub pad-none : (n : ℕ) (a : declared-attribute.Attribute) → viewAttribute a ≡ filler → map viewAttribute (replicate n a) ≡ pad n []
 unfolding pad
@@ -98,7 +99,7 @@ module _ {n : ℕ} {s : List ℕ} {start : ℕ} {c : Encoding} {e : RunTimeEndia
   kept-size = sym (length-map attrs viewAttribute) ∙ ap length (t .is) ∙ length-pad n (t .vs)
 
   module _ (h : i < count) {x : Specification} (q : x ≡ specAt l (i * 3)) where
-    pub kept-more : count ≤ n → {w : Value} {r : ℕ} → formAt s start c e x p ≡ gives w r → (a : declared-attribute.Attribute) → viewAttribute a ≡ record { name = x .name; form = x .form; value = valueUnder c (x .name) w }
+    pub kept-more : count ≤ n → {w : Value} {r : ℕ} → formAt s start c e x p ≡ gives w r → (a : declared-attribute.Attribute) → viewAttribute a ≡ attribute x (anyPadded s (numbersAt s (x .form) p)) (valueUnder c (x .name) w)
         → Kept n s start c e count l at (set attrs i a) (i + 1) r
     unfolding attributesAt attributeAt
     kept-more m {w} {r} f a v =
@@ -110,7 +111,7 @@ module _ {n : ℕ} {s : List ℕ} {start : ℕ} {c : Encoding} {e : RunTimeEndia
           is = map-set viewAttribute attrs i a ∙ ap (λ (y : List Attribute). set y i (viewAttribute a)) (t .is) ∙ rw (t .len) at (set-pad n (t .vs) (viewAttribute a) (omega (arith, t .len)));
           len = length-append (t .vs) (viewAttribute a ∷ []) ∙ ap (λ (k : ℕ). k + 1) (t .len);
           inside = g .ahead .within;
-          rest = t .rest ∙ rw (d, f) (before-more (t .vs) (record { name = x .name; form = x .form; value = valueUnder c (x .name) w }) more ∙ ap (λ (b : Attribute). before (t .vs ++ (b ∷ [])) more) (sym v));
+          rest = t .rest ∙ rw (d, f) (before-more (t .vs) (attribute x (anyPadded s (numbersAt s (x .form) p)) (valueUnder c (x .name) w)) more ∙ ap (λ (b : Attribute). before (t .vs ++ (b ∷ [])) more) (sym v));
         }
 
     pub kept-stop : {k : ℕ} → formAt s start c e x p ≡ refused k → attributesAt s start c e (specsFrom count l) at ≡ refused k
@@ -141,9 +142,9 @@ end-more s start c e x xs p = go (formAt s start c e x p)
     ends a (refused n) = refl
 
     go : (r : Answer (Read Value))
-        → endOf (andThen (andThen r (λ v. gives (record { name = x .name; form = x .form; value = valueUnder c (x .name) (v .value) }) (v .next))) (λ (a : Read Attribute). andThen (attributesAt s start c e xs (a .next)) (λ y. gives (a .value ∷ y .value) (y .next))))
+        → endOf (andThen (andThen r (λ v. gives (attribute x (anyPadded s (numbersAt s (x .form) p)) (valueUnder c (x .name) (v .value))) (v .next))) (λ (a : Read Attribute). andThen (attributesAt s start c e xs (a .next)) (λ y. gives (a .value ∷ y .value) (y .next))))
         ≡ andThen (endOf r) (λ q. endOf (attributesAt s start c e xs q))
-    go (got v) = ends (record { name = x .name; form = x .form; value = valueUnder c (x .name) (v .value) }) (attributesAt s start c e xs (v .next))
+    go (got v) = ends (attribute x (anyPadded s (numbersAt s (x .form) p)) (valueUnder c (x .name) (v .value))) (attributesAt s start c e xs (v .next))
     go (refused n) = refl
 
 module _ {s : List ℕ} {c : Encoding} {e : RunTimeEndian} {count : ℕ} {l : List ℕ} {at i p : ℕ} (t : Passed s c e count l at i p) where

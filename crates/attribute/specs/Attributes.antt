@@ -1,5 +1,5 @@
 -- The values of an entry, by the found row of its abbreviation.
-use mathlib.Core.Bool.{Bool, cond, _&&_}
+use mathlib.Core.Bool.{Bool, false, cond, _&&_}
 use mathlib.Core.List.{List, [], _∷_}
 use Prim.Native.Nat.{ℕ, zero, suc, _+_, _^_}
 use lib.Dec.{leb, ltb}
@@ -38,7 +38,7 @@ skipAttributes most s start c e specs f at =
 
 -- what stands in the places that hold no attribute
 abbrev pub filler : Attribute
-filler = record { name = 0; form = 0; value = record { kind = K.Flag; low = 0; high = 0 } }
+filler = record { name = 0; form = 0; padded = false; value = record { kind = K.Flag; low = 0; high = 0 } }
 
 -- n places, those of the list first
 unfoldable pub pad : ℕ → List Attribute → List Attribute

@@ -1,6 +1,7 @@
 -- The definitions that the contracts of `attribute` cite.
 pub mod Forms
 pub mod Value
+pub mod Padded
 pub mod Read
 pub mod Skip
 pub mod Attributes

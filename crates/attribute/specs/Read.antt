@@ -1,6 +1,6 @@
 -- Reading values. Sections are those of DWARF 5; what DWARF 2 to 4 have of it stands in their 7.5.4.
-use mathlib.Core.Bool.{cond}
-use mathlib.Core.List.{List, [], _∷_}
+use mathlib.Core.Bool.{Bool, cond}
+use mathlib.Core.List.{List, [], _∷_, _++_}
 use Prim.Native.Nat.{ℕ, zero, suc, _+_}
 use lib.Dec.{eqb}
 use lib.ListN.{length}
@@ -13,6 +13,7 @@ use Rattle.reader.specs.declared.common.Encoding.{Encoding}
 use Rattle.reader.specs.declared.endianity.RunTimeEndian.{RunTimeEndian}
 use Rattle.abbrev.specs.Table.{Specification, implicitConst}
 use Rattle.attribute.specs.Forms.{indirect, row}
+use Rattle.attribute.specs.Padded.{Leb128, anyPadded, layoutNumbers, after, formNumbers}
 use Rattle.attribute.specs.Value.{Attribute, valueUnder}
 use Rattle.attribute.specs.declared.form.Layout.{Layout}
 use Rattle.attribute.specs.declared.form.Layout.the-variants as L
@@ -107,11 +108,20 @@ formAt s start c e x at =
     andThen (rawAt s start c e x (row (f .value) .layout) (f .next))
     (λ n. gives (record { kind = row (f .value) .kind; low = n .value .low; high = n .value .high }) (n .next)))
 
--- gimli's parse_attribute
+-- a value under its specification's name and form, with a mark
+abbrev pub attribute : Specification → Bool → Value → Attribute
+attribute x padded v = record { name = x .name; form = x .form; padded = padded; value = v }
+
+-- 02, request 2: the LEB128 numbers that are read for a value of a form: those that name its form, then its own
+unfoldable pub numbersAt : List ℕ → ℕ → ℕ → List Leb128
+numbersAt s f at =
+    formNumbers s f at ++ after (finalForm s f at) (λ r. layoutNumbers (row (r .value) .layout) (r .next))
+
+-- gimli's parse_attribute; 02, request 2: the mark says whether one of those numbers is padded
 unfoldable pub attributeAt : List ℕ → ℕ → Encoding → RunTimeEndian → Specification → ℕ → Answer (Read Attribute)
 attributeAt s start c e x at =
     andThen (formAt s start c e x at)
-    (λ v. gives (record { name = x .name; form = x .form; value = valueUnder c (x .name) (v .value) }) (v .next))
+    (λ v. gives (attribute x (anyPadded s (numbersAt s (x .form) at)) (valueUnder c (x .name) (v .value))) (v .next))
 
 -- 7.5.2: the values of an entry, one after another
 unfoldable pub attributesAt : List ℕ → ℕ → Encoding → RunTimeEndian → List Specification → ℕ → Answer (Read (List Attribute))

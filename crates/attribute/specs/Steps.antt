@@ -6,7 +6,7 @@ use mathlib.Core.Path.{_≡_}
 use Prim.Native.Nat.{ℕ, _+_, _*_, _/_, _^_, _≤_, _<_}
 use lib.Dec.{eqb, leb}
 use lib.ListN.{length, drop}
-use Rattle.reader.specs.Answer.{Answer, got, refused}
+use Rattle.reader.specs.Answer.{Answer, got, refused, andThen, Read, gives}
 use Rattle.reader.specs.Fields.{wordSize, isAddressSize, skipAt}
 use Rattle.reader.specs.declared.common.Encoding.{Encoding}
 use Rattle.abbrev.specs.Lookup.{specsFrom, allFair}
@@ -18,6 +18,14 @@ use Rattle.attribute.specs.declared.form.Layout.{Layout}
 use Rattle.attribute.specs.declared.form.Layout.the-variants as L
 use Rattle.attribute.specs.declared.form.Sort.{Sort}
 use Rattle.attribute.specs.declared.form.Sort.the-variants as S
+
+-- a value with a mark beside it
+pub record Noted (A : Type 0) : Type 0 where
+  pub value : A
+  pub padded : Bool
+
+abbrev pub noted : {A : Type 0} → Bool → Answer (Read A) → Answer (Read (Noted A))
+noted b r = andThen r (λ x. gives (record { value = x .value; padded = b }) (x .next))
 
 -- a position in bytes that start at an offset keeps 01's sizes
 pub record Within (count start at : ℕ) : Type 0 where

@@ -13,10 +13,11 @@ use Rattle.attribute.specs.declared.form.Sort.{Sort}
 use Rattle.attribute.specs.declared.form.Sort.the-variants as S
 use Rattle.attribute.specs.declared.value.Value.{Value}
 
--- a value under its attribute's name and form
+-- a value under its attribute's name and form; 02, request 2: whether a number read for it is padded
 pub record Attribute : Type 0 where
   pub name : ℕ
   pub form : ℕ
+  pub padded : Bool
   pub value : Value
 
 -- 01, "Values" (DWARF 3, 7.5.4, classes lineptr, loclistptr, macptr and rangelistptr): the names under which forms 06 and 07 are offsets into a section

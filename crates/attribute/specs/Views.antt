@@ -10,12 +10,15 @@ use Rattle.reader.specs.Twos.{word}
 use Rattle.reader.specs.Views.{viewPlace}
 use Rattle.attribute.specs.Attributes.{Stored}
 use Rattle.attribute.specs.Read.{Numbers}
+use Rattle.attribute.specs.Steps.{Noted}
 use Rattle.attribute.specs.Value.{Attribute}
 use Rattle.attribute.specs.declared.form.Kind.{Kind}
 use Rattle.attribute.specs.declared.form.Kind.the-variants as K
 use Rattle.attribute.specs.declared.parse.Attributes.{Attributes}
 use Rattle.attribute.specs.declared.parse.Parsed.{Parsed}
 use Rattle.attribute.specs.declared.parse.Parsed.the-variants as parsed
+use Rattle.attribute.specs.declared.raw.Final.{Final}
+use Rattle.attribute.specs.declared.raw.Final.the-variants as final
 use Rattle.attribute.specs.declared.raw.FormValue.{FormValue}
 use Rattle.attribute.specs.declared.raw.FormValue.the-variants as form-value
 use Rattle.attribute.specs.declared.raw.Raw.{Raw}
@@ -64,14 +67,18 @@ viewValue (case.DebugLineStrRef n) = value K.DebugLineStrRef n 0
 viewValue (case.String a n) = value K.String a n
 
 abbrev pub viewAttribute : declared-attribute.Attribute → Attribute
-viewAttribute a = record { name = a .name; form = a .form; value = viewValue (a .value) }
+viewAttribute a = record { name = a .name; form = a .form; padded = a .padded; value = viewValue (a .value) }
 
-abbrev pub viewRaw : Raw → Answer (Read Numbers)
-viewRaw (raw.Got l p h) = gives (record { low = l; high = h }) p
+abbrev pub viewRaw : Raw → Answer (Read (Noted Numbers))
+viewRaw (raw.Got l p h b) = gives (record { value = record { low = l; high = h }; padded = b }) p
 viewRaw (raw.Refused e) = refused (numberOf e)
 
-abbrev pub viewFormValue : FormValue → Answer (Read Value)
-viewFormValue (form-value.Got k l p h) = gives (value k l h) p
+abbrev pub viewFinal : Final → Answer (Read (Noted ℕ))
+viewFinal (final.Got f p b) = gives (record { value = f; padded = b }) p
+viewFinal (final.Refused e) = refused (numberOf e)
+
+abbrev pub viewFormValue : FormValue → Answer (Read (Noted Value))
+viewFormValue (form-value.Got k l p h b) = gives (record { value = value k l h; padded = b }) p
 viewFormValue (form-value.Refused e) = refused (numberOf e)
 
 abbrev pub viewParsed : Parsed → Answer (Read Attribute)

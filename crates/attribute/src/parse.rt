@@ -62,12 +62,13 @@ fn parse_at(
     ensures { λ r. ⌜ viewParsed r ≡ attributeAt (now (bytes .entry)) start encoding endian (specificationOf spec) at ⌝ }
 {
     match form_at(bytes, start, encoding, endian, spec, at) {
-        FormValue::Got(kind, low, next, high) => {
+        FormValue::Got(kind, low, next, high, padded) => {
             let name = spec.name;
             let value = value_of(encoding, name, kind, low, high);
             let attribute = Attribute {
                 name,
                 form: spec.form,
+                padded,
                 value,
             };
             Parsed::Got(attribute, next)
@@ -129,12 +130,13 @@ fn read_listed(
     while i < count {
         let spec = spec_at(specs, first, count, i);
         match form_at(bytes, start, encoding, endian, spec, next) {
-            FormValue::Got(kind, low, after, high) => {
+            FormValue::Got(kind, low, after, high, padded) => {
                 let name = spec.name;
                 let value = value_of(encoding, name, kind, low, high);
                 attrs[i] = Attribute {
                     name,
                     form: spec.form,
+                    padded,
                     value,
                 };
                 next = after;

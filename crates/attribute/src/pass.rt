@@ -16,6 +16,7 @@ use super::form::Layout;
 use super::form::row_of;
 use super::parse::keeps_place;
 use super::parse::spec_at;
+use super::raw::Final;
 use super::raw::final_form;
 use abbrev::lookup::Abbreviation;
 use abbrev::lookup::AttributeSpecification;
@@ -30,8 +31,8 @@ use reader::error::Error;
 use reader::fields::is_address_size;
 use reader::fields::read_null_terminated_slice;
 use reader::fields::skip;
-use reader::leb128::read_sleb128;
-use reader::leb128::read_uleb128;
+use reader::leb128::sleb128;
+use reader::leb128::uleb128;
 use reader::words::read_u8;
 use reader::words::read_u16;
 use reader::words::read_u32;
@@ -58,7 +59,7 @@ fn pass_address(bytes: &[u8], at: usize, address_size: u8) -> Place
 fn pass_signed(bytes: &[u8], at: usize) -> Place
     ensures { λ r. ⌜ viewPlace r ≡ endOf (signedAt (now (bytes .entry)) at) ⌝ }
 {
-    match read_sleb128(bytes, at) {
+    match sleb128(bytes, at) {
         SignedWord::Got(_, next) => Place::At(next),
         SignedWord::Refused(e) => Place::Refused(e),
     }
@@ -117,12 +118,12 @@ fn pass_raw(
         } else {
             skip(bytes, at, format.word_size() as u64)
         },
-        Layout::Uleb128 => place(read_uleb128(bytes, at)),
+        Layout::Uleb128 => place(uleb128(bytes, at)),
         Layout::Sleb128 => pass_signed(bytes, at),
         Layout::Block1 => pass_block(bytes, read_u8(bytes, at)),
         Layout::Block2 => pass_block(bytes, read_u16(bytes, at, endian)),
         Layout::Block4 => pass_block(bytes, read_u32(bytes, at, endian)),
-        Layout::Block => pass_block(bytes, read_uleb128(bytes, at)),
+        Layout::Block => pass_block(bytes, uleb128(bytes, at)),
         Layout::NullTerminated => pass_string(bytes, at),
         Layout::Present => Place::At(at),
         Layout::ImplicitConst => pass_constant(spec.form, at),
@@ -142,12 +143,12 @@ fn pass_form(
 {
     let form = spec.form;
     match final_form(bytes, form as u64, at) {
-        Word::Got(last, next) => {
+        Final::Got(last, next, _) => {
             let found = row_of(last);
             let layout = found.layout;
             pass_raw(bytes, encoding, endian, spec, layout, next)
         }
-        Word::Refused(e) => Place::Refused(e),
+        Final::Refused(e) => Place::Refused(e),
     }
 }
 

@@ -1,13 +1,16 @@
 // What stands in the bytes, by its form's layout.
 
+ghost use mathlib.Core.Bool.{false, _||_};
 ghost use mathlib.Core.Path.{_≡_};
 ghost use Prim.Native.Nat.{_+_, _^_, _≤_, _<_};
 ghost use lib.ListN.{length};
+ghost use Rattle.reader.specs.Leb128.{ulebAt};
 ghost use Rattle.reader.specs.Views.{viewWord};
 ghost use Rattle.abbrev.specs.Views.{specificationOf};
-ghost use Rattle.attribute.specs.Read.{numbered, wideAt, signedAt, refAddrAt, blockAfter, stringAt, constantOf, rawAt, finalForm, formAt};
-ghost use Rattle.attribute.specs.Steps.{Within};
-ghost use Rattle.attribute.specs.Views.{viewRaw, viewFormValue};
+ghost use Rattle.attribute.specs.Padded.{unsigned, signed, isPadded, anyPadded, layoutNumbers, formNumbers};
+ghost use Rattle.attribute.specs.Read.{numbered, wideAt, signedAt, refAddrAt, blockAfter, stringAt, constantOf, rawAt, finalForm, formAt, numbersAt};
+ghost use Rattle.attribute.specs.Steps.{Within, noted};
+ghost use Rattle.attribute.specs.Views.{viewRaw, viewFinal, viewFormValue};
 use super::form::Kind;
 use super::form::Layout;
 use super::form::row_of;
@@ -15,7 +18,8 @@ use abbrev::lookup::AttributeSpecification;
 use abbrev::table::IMPLICIT_CONST;
 use reader::answer::Bytes;
 use reader::answer::Place;
-use reader::answer::SignedWord;
+use reader::answer::Signed;
+use reader::answer::Unsigned;
 use reader::answer::WideWord;
 use reader::answer::Word;
 use reader::common::Encoding;
@@ -39,43 +43,64 @@ use reader::words::read_u128;
 
 pub(crate) const INDIRECT: u64 = 0x16;
 
-// A number, the next place, and a second number. The numbers are not neighbours: loaded as one, they
-// would wait for the stores of both.
+// A number, the next place, a second number, and whether a LEB128 number read for them is padded. The
+// numbers are not neighbours: loaded as one, they would wait for the stores of both.
 pub enum Raw {
-    Got(u64, usize, u64),
+    Got(u64, usize, u64, bool),
     Refused(Error),
 }
 
-// A form's case, a number, the next place, and a second number.
+// The same behind a form's case.
 pub enum FormValue {
-    Got(Kind, u64, usize, u64),
+    Got(Kind, u64, usize, u64, bool),
     Refused(Error),
+}
+
+// A form, the next place, and whether a number that named a form before it is padded.
+pub enum Final {
+    Got(u64, usize, bool),
+    Refused(Error),
+}
+
+fn either(a: bool, b: bool) -> bool
+    ensures { λ r. ⌜ r ≡ a || b ⌝ }
+{
+    if a { true } else { b }
 }
 
 fn number(read: Word) -> Raw
-    ensures { λ r. ⌜ viewRaw r ≡ numbered (viewWord read) ⌝ }
+    ensures { λ r. ⌜ viewRaw r ≡ noted false (numbered (viewWord read)) ⌝ }
 {
     match read {
-        Word::Got(value, next) => Raw::Got(value, next, 0),
+        Word::Got(value, next) => Raw::Got(value, next, 0, false),
         Word::Refused(e) => Raw::Refused(e),
     }
 }
 
 fn wide(bytes: &[u8], at: usize, endian: RunTimeEndian) -> Raw
-    ensures { λ r. ⌜ viewRaw r ≡ wideAt (now (bytes .entry)) at endian ⌝ }
+    ensures { λ r. ⌜ viewRaw r ≡ noted false (wideAt (now (bytes .entry)) at endian) ⌝ }
 {
     match read_u128(bytes, at, endian) {
-        WideWord::Got(low, high, next) => Raw::Got(low, next, high),
+        WideWord::Got(low, high, next) => Raw::Got(low, next, high, false),
         WideWord::Refused(e) => Raw::Refused(e),
     }
 }
 
+fn unsigned(bytes: &[u8], at: usize) -> Raw
+    ensures { λ r. ⌜ viewRaw r ≡ noted (isPadded (now (bytes .entry)) (unsigned 64 at)) (numbered (ulebAt (now (bytes .entry)) at 64)) ⌝ }
+{
+    match read_uleb128(bytes, at) {
+        Unsigned::Got(value, next, _, padded) => Raw::Got(value, next, 0, padded),
+        Unsigned::Refused(e) => Raw::Refused(e),
+    }
+}
+
 fn signed(bytes: &[u8], at: usize) -> Raw
-    ensures { λ r. ⌜ viewRaw r ≡ signedAt (now (bytes .entry)) at ⌝ }
+    ensures { λ r. ⌜ viewRaw r ≡ noted (isPadded (now (bytes .entry)) (signed 64 at)) (signedAt (now (bytes .entry)) at) ⌝ }
 {
     match read_sleb128(bytes, at) {
-        SignedWord::Got(value, next) => Raw::Got(to_word(value), next, 0),
-        SignedWord::Refused(e) => Raw::Refused(e),
+        Signed::Got(value, next, _, padded) => Raw::Got(to_word(value), next, 0, padded),
+        Signed::Refused(e) => Raw::Refused(e),
     }
 }
 
@@ -90,15 +115,15 @@ fn read_ref_addr(bytes: &[u8], at: usize, encoding: Encoding, endian: RunTimeEnd
 }
 
 // The bytes that follow their count.
-fn block(bytes: &[u8], start: usize, count: Word) -> Raw
+fn block(bytes: &[u8], start: usize, count: Word, padded: bool) -> Raw
     requires { ⌜ start + length (now bytes) < 2 ^ 63 ⌝ }
-    ensures { λ r. ⌜ viewRaw r ≡ blockAfter (now (bytes .entry)) start (viewWord count) ⌝ }
+    ensures { λ r. ⌜ viewRaw r ≡ noted padded (blockAfter (now (bytes .entry)) start (viewWord count)) ⌝ }
 {
     match count {
         Word::Got(len, at) => match skip(bytes, at, len) {
             Place::At(next) => {
                 let place = (start + at) as u64;
-                Raw::Got(place, next, len)
+                Raw::Got(place, next, len, padded)
             }
             Place::Refused(e) => Raw::Refused(e),
         },
@@ -106,25 +131,36 @@ fn block(bytes: &[u8], start: usize, count: Word) -> Raw
     }
 }
 
+// The same after a LEB128 number.
+fn measured(bytes: &[u8], start: usize, at: usize) -> Raw
+    requires { ⌜ start + length (now bytes) < 2 ^ 63 ⌝ }
+    ensures { λ r. ⌜ viewRaw r ≡ noted (isPadded (now (bytes .entry)) (unsigned 64 at)) (blockAfter (now (bytes .entry)) start (ulebAt (now (bytes .entry)) at 64)) ⌝ }
+{
+    match read_uleb128(bytes, at) {
+        Unsigned::Got(len, next, _, padded) => block(bytes, start, Word::Got(len, next), padded),
+        Unsigned::Refused(e) => Raw::Refused(e),
+    }
+}
+
 fn string(bytes: &[u8], start: usize, at: usize) -> Raw
     requires { ⌜ start + length (now bytes) < 2 ^ 63 ⌝ }
-    ensures { λ r. ⌜ viewRaw r ≡ stringAt (now (bytes .entry)) start at ⌝ }
+    ensures { λ r. ⌜ viewRaw r ≡ noted false (stringAt (now (bytes .entry)) start at) ⌝ }
 {
     match read_null_terminated_slice(bytes, at) {
         Bytes::Got(from, len, next) => {
             let place = (start + from) as u64;
-            Raw::Got(place, next, len as u64)
+            Raw::Got(place, next, len as u64, false)
         }
         Bytes::Refused(e) => Raw::Refused(e),
     }
 }
 
 fn constant(spec: AttributeSpecification, at: usize) -> Raw
-    ensures { λ r. ⌜ viewRaw r ≡ constantOf (specificationOf spec) at ⌝ }
+    ensures { λ r. ⌜ viewRaw r ≡ noted false (constantOf (specificationOf spec) at) ⌝ }
 {
     let form = spec.form;
     if (form as u64) == IMPLICIT_CONST {
-        return Raw::Got(spec.constant, at, 0);
+        return Raw::Got(spec.constant, at, 0, false);
     }
     Raw::Refused(Error::InvalidImplicitConst)
 }
@@ -139,7 +175,7 @@ fn raw_at(
     at: usize,
 ) -> Raw
     requires { ⌜ start + length (now bytes) < 2 ^ 63 ⌝ }
-    ensures { λ r. ⌜ viewRaw r ≡ rawAt (now (bytes .entry)) start encoding endian (specificationOf spec) layout at ⌝ }
+    ensures { λ r. ⌜ viewRaw r ≡ noted (anyPadded (now (bytes .entry)) (layoutNumbers layout at)) (rawAt (now (bytes .entry)) start encoding endian (specificationOf spec) layout at) ⌝ }
 {
     let format = encoding.format;
     match layout {
@@ -152,38 +188,40 @@ fn raw_at(
         Layout::Offset => number(read_offset(bytes, at, format, endian)),
         Layout::Address => number(read_address(bytes, at, encoding.address_size, endian)),
         Layout::RefAddr => number(read_ref_addr(bytes, at, encoding, endian)),
-        Layout::Uleb128 => number(read_uleb128(bytes, at)),
+        Layout::Uleb128 => unsigned(bytes, at),
         Layout::Sleb128 => signed(bytes, at),
-        Layout::Block1 => block(bytes, start, read_u8(bytes, at)),
-        Layout::Block2 => block(bytes, start, read_u16(bytes, at, endian)),
-        Layout::Block4 => block(bytes, start, read_u32(bytes, at, endian)),
-        Layout::Block => block(bytes, start, read_uleb128(bytes, at)),
+        Layout::Block1 => block(bytes, start, read_u8(bytes, at), false),
+        Layout::Block2 => block(bytes, start, read_u16(bytes, at, endian), false),
+        Layout::Block4 => block(bytes, start, read_u32(bytes, at, endian), false),
+        Layout::Block => measured(bytes, start, at),
         Layout::NullTerminated => string(bytes, start, at),
-        Layout::Present => Raw::Got(1, at, 0),
+        Layout::Present => Raw::Got(1, at, 0, false),
         Layout::ImplicitConst => constant(spec, at),
         Layout::Unknown => Raw::Refused(Error::UnknownForm),
     }
 }
 
 // The form that a form is in the end: DW_FORM_indirect names another one in the bytes.
-pub(crate) fn final_form(bytes: &[u8], form: u64, at: usize) -> Word
+pub(crate) fn final_form(bytes: &[u8], form: u64, at: usize) -> Final
     requires { ⌜ at ≤ length (now bytes) ⌝ }
-    ensures { λ r. ⌜ viewWord r ≡ finalForm (now (bytes .entry)) form at ⌝ }
+    ensures { λ r. ⌜ viewFinal r ≡ noted (anyPadded (now (bytes .entry)) (formNumbers (now (bytes .entry)) form at)) (finalForm (now (bytes .entry)) form at) ⌝ }
 {
     let mut last = form;
     let mut next = at;
+    let mut padded = false;
     while last == INDIRECT {
         match read_uleb128_u16(bytes, next) {
-            Word::Got(named, after) => {
+            Unsigned::Got(named, after, _, more) => {
                 last = named;
                 next = after;
+                padded = either(padded, more);
             }
-            Word::Refused(e) => {
-                return Word::Refused(e);
+            Unsigned::Refused(e) => {
+                return Final::Refused(e);
             }
         }
     }
-    Word::Got(last, next)
+    Final::Got(last, next, padded)
 }
 
 pub(crate) fn form_at(
@@ -195,19 +233,22 @@ pub(crate) fn form_at(
     at: usize,
 ) -> FormValue
     requires { ⌜ Within (length (now bytes)) start at ⌝ }
-    ensures { λ r. ⌜ viewFormValue r ≡ formAt (now (bytes .entry)) start encoding endian (specificationOf spec) at ⌝ }
+    ensures { λ r. ⌜ viewFormValue r ≡ noted (anyPadded (now (bytes .entry)) (numbersAt (now (bytes .entry)) (spec .form) at)) (formAt (now (bytes .entry)) start encoding endian (specificationOf spec) at) ⌝ }
 {
     let form = spec.form;
     match final_form(bytes, form as u64, at) {
-        Word::Got(last, next) => {
+        Final::Got(last, next, named) => {
             let found = row_of(last);
             let layout = found.layout;
             let kind = found.kind;
             match raw_at(bytes, start, encoding, endian, spec, layout, next) {
-                Raw::Got(low, after, high) => FormValue::Got(kind, low, after, high),
+                Raw::Got(low, after, high, padded) => {
+                    let any = either(named, padded);
+                    FormValue::Got(kind, low, after, high, any)
+                }
                 Raw::Refused(e) => FormValue::Refused(e),
             }
         }
-        Word::Refused(e) => FormValue::Refused(e),
+        Final::Refused(e) => FormValue::Refused(e),
     }
 }

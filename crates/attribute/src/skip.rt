@@ -18,6 +18,7 @@ use super::form::Layout;
 use super::form::row_of;
 use super::parse::keeps_place;
 use super::parse::spec_at;
+use super::raw::Final;
 use super::raw::final_form;
 use super::size::Size;
 use super::size::get_attribute_size;
@@ -30,8 +31,8 @@ use reader::endianity::RunTimeEndian;
 use reader::error::Error;
 use reader::fields::read_null_terminated_slice;
 use reader::fields::skip;
-use reader::leb128::read_uleb128;
 use reader::leb128::skip_leb128;
+use reader::leb128::uleb128;
 use reader::words::read_u8;
 use reader::words::read_u16;
 use reader::words::read_u32;
@@ -98,7 +99,7 @@ fn skip_layout(
         Layout::Block1 => pending_count(bytes, read_u8(bytes, at)),
         Layout::Block2 => pending_count(bytes, read_u16(bytes, at, endian)),
         Layout::Block4 => pending_count(bytes, read_u32(bytes, at, endian)),
-        Layout::Block => pending_count(bytes, read_uleb128(bytes, at)),
+        Layout::Block => pending_count(bytes, uleb128(bytes, at)),
         Layout::NullTerminated => pending_string(bytes, at),
         Layout::Present => Pending::Got(at, 0),
         Layout::ImplicitConst => Pending::Got(at, 0),
@@ -118,12 +119,12 @@ fn skip_variable(
     ensures { λ r. ⌜ viewPending (now (bytes .entry)) r ≡ pastValue (now (bytes .entry)) encoding endian form at ⌝ }
 {
     match final_form(bytes, form, at) {
-        Word::Got(last, next) => {
+        Final::Got(last, next, _) => {
             let found = row_of(last);
             let layout = found.layout;
             skip_layout(bytes, encoding, endian, layout, next)
         }
-        Word::Refused(e) => Pending::Refused(e),
+        Final::Refused(e) => Pending::Refused(e),
     }
 }
 

@@ -42,6 +42,8 @@ pub enum AttributeValue {
 pub struct Attribute {
     pub name: u16,
     pub form: u16,
+    // whether one of the LEB128 numbers read for it is padded
+    pub padded: bool,
     pub value: AttributeValue,
 }
 
@@ -53,6 +55,7 @@ impl Attribute {
         Attribute {
             name: 0,
             form: 0,
+            padded: false,
             value: AttributeValue::Flag(false),
         }
     }

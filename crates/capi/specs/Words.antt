@@ -9,6 +9,7 @@ use lib.IntN.{ℤ}
 use lib.ListN.{length, take, replicate}
 use Rattle.reader.specs.Answer.{Answer, got, refused, Read}
 use Rattle.reader.specs.Fields.{Initial, wordSize, addressAt}
+use Rattle.reader.specs.Padded.{Counted}
 use Rattle.reader.specs.Twos.{word}
 use Rattle.reader.specs.Words.{wordAt}
 use Rattle.reader.specs.declared.common.Encoding.{Encoding}
@@ -80,9 +81,13 @@ sizedWordAt s at n e = cond (eqb n 3) (wordAt s at 3 e) (addressAt s at n e)
 abbrev pub readWords : Read ℕ → List ℕ
 readWords x = x .value ∷ x .next ∷ []
 
+-- a LEB128 number, the next place, how many bytes it has, and whether fewer would do
+abbrev pub countedWords : Read (Counted ℕ) → List ℕ
+countedWords x = x .value .number ∷ x .next ∷ x .value .count ∷ bit (x .value .padded) ∷ []
+
 -- a signed number is in two's complement of 64 bits
-abbrev pub signedWords : Read ℤ → List ℕ
-signedWords x = word 64 (x .value) ∷ x .next ∷ []
+abbrev pub signedWords : Read (Counted ℤ) → List ℕ
+signedWords x = word 64 (x .value .number) ∷ x .next ∷ x .value .count ∷ bit (x .value .padded) ∷ []
 
 abbrev pub placeWords : ℕ → List ℕ
 placeWords p = p ∷ []
@@ -117,9 +122,9 @@ advancedWords x = x .offset ∷ wordsOr (ifThere headerWords) (x .answer)
 abbrev pub foundWords : Found → List ℕ
 foundWords f = f .code ∷ f .tag ∷ f .children ∷ f .first ∷ f .count ∷ []
 
--- name, form, the number of the case and its two numbers
+-- name, form, the number of the case, its two numbers and the mark
 abbrev pub attributeWords : Attribute → List ℕ
-attributeWords a = a .name ∷ a .form ∷ caseOf (a .value .kind) .number ∷ a .value .low ∷ a .value .high ∷ []
+attributeWords a = a .name ∷ a .form ∷ caseOf (a .value .kind) .number ∷ a .value .low ∷ a .value .high ∷ bit (a .padded) ∷ []
 
 abbrev pub readAttributeWords : Read Attribute → List ℕ
 readAttributeWords x = x .next ∷ attributeWords (x .value)

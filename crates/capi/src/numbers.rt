@@ -1,17 +1,21 @@
 // LEB128 numbers, words and initial lengths.
 
 ghost use Rattle.reader.specs.Fields.{initialLengthAt};
-ghost use Rattle.reader.specs.Leb128.{ulebAt, slebAt, pastAt};
-ghost use Rattle.reader.specs.Views.{viewWord};
-ghost use Rattle.capi.specs.Words.{Gives, endianOf, sizedWordAt, readWords, signedWords, placeWords, initialWords};
+ghost use Rattle.reader.specs.Leb128.{pastAt};
+ghost use Rattle.reader.specs.Padded.{ulebCountedAt, slebCountedAt};
+ghost use Rattle.reader.specs.Views.{viewWord, viewUnsigned};
+ghost use Rattle.capi.specs.Words.{Gives, endianOf, sizedWordAt, readWords, countedWords, signedWords, placeWords, initialWords};
+use super::out::bit_of;
 use super::out::endian_of;
 use super::out::give1;
 use super::out::give2;
 use super::out::give3;
+use super::out::give4;
 use super::out::refuse;
 use reader::answer::InitialLength;
 use reader::answer::Place;
-use reader::answer::SignedWord;
+use reader::answer::Signed;
+use reader::answer::Unsigned;
 use reader::answer::Word;
 use reader::fields::read_address;
 use reader::fields::read_initial_length;
@@ -32,35 +36,49 @@ pub(crate) fn give_word(out: &mut [u64], answer: Word) -> u64
     }
 }
 
-// Words: the number, the next place.
+// A number, the next place, how many bytes it has, and 1 where fewer would do.
+fn give_unsigned(out: &mut [u64], answer: Unsigned) -> u64
+    ensures { λ r. ⌜ Gives countedWords (viewUnsigned answer) (now (out .entry)) (now (out .exit)) r ⌝ }
+{
+    match answer {
+        Unsigned::Got(value, next, count, padded) => {
+            let mark = bit_of(padded);
+            give4(out, value, next as u64, count as u64, mark)
+        }
+        Unsigned::Refused(e) => refuse(out, e),
+    }
+}
+
+// Words: the number, the next place, how many bytes it has, 1 where fewer would do.
 #[no_mangle]
 pub extern "C" fn tehkumir_read_uleb128(bytes: &[u8], at: usize, out: &mut [u64]) -> u64
-    ensures { λ r. ⌜ Gives readWords (ulebAt (now (bytes .entry)) at 64) (now (out .entry)) (now (out .exit)) r ⌝ }
+    ensures { λ r. ⌜ Gives countedWords (ulebCountedAt (now (bytes .entry)) at 64) (now (out .entry)) (now (out .exit)) r ⌝ }
 {
     let answer = read_uleb128(bytes, at);
-    give_word(out, answer)
+    give_unsigned(out, answer)
 }
 
-// Words: the number, the next place.
+// Words: the number, the next place, how many bytes it has, 1 where fewer would do.
 #[no_mangle]
 pub extern "C" fn tehkumir_read_uleb128_u16(bytes: &[u8], at: usize, out: &mut [u64]) -> u64
-    ensures { λ r. ⌜ Gives readWords (ulebAt (now (bytes .entry)) at 16) (now (out .entry)) (now (out .exit)) r ⌝ }
+    ensures { λ r. ⌜ Gives countedWords (ulebCountedAt (now (bytes .entry)) at 16) (now (out .entry)) (now (out .exit)) r ⌝ }
 {
     let answer = read_uleb128_u16(bytes, at);
-    give_word(out, answer)
+    give_unsigned(out, answer)
 }
 
-// Words: the number in two's complement, the next place.
+// Words: the number in two's complement, the next place, how many bytes it has, 1 where fewer would do.
 #[no_mangle]
 pub extern "C" fn tehkumir_read_sleb128(bytes: &[u8], at: usize, out: &mut [u64]) -> u64
-    ensures { λ r. ⌜ Gives signedWords (slebAt (now (bytes .entry)) at 64) (now (out .entry)) (now (out .exit)) r ⌝ }
+    ensures { λ r. ⌜ Gives signedWords (slebCountedAt (now (bytes .entry)) at 64) (now (out .entry)) (now (out .exit)) r ⌝ }
 {
     match read_sleb128(bytes, at) {
-        SignedWord::Got(value, next) => {
+        Signed::Got(value, next, count, padded) => {
             let number = to_word(value);
-            give2(out, number, next as u64)
+            let mark = bit_of(padded);
+            give4(out, number, next as u64, count as u64, mark)
         }
-        SignedWord::Refused(e) => refuse(out, e),
+        Signed::Refused(e) => refuse(out, e),
     }
 }
 

@@ -93,6 +93,14 @@ pub(crate) fn put3(out: &mut [u64], at: usize, a: u64, b: u64, c: u64) -> usize
     put(out, first, c)
 }
 
+fn put4(out: &mut [u64], at: usize, a: u64, b: u64, c: u64, d: u64) -> usize
+    requires { ⌜ at ≤ length (now out) ⌝ }
+    ensures { λ r. ⌜ Put (now (out .entry)) (now (out .exit)) at r (a ∷ b ∷ c ∷ d ∷ []) ⌝ }
+{
+    let first = put2(out, at, a, b);
+    put2(out, first, c, d)
+}
+
 pub(crate) fn put5(out: &mut [u64], at: usize, a: u64, b: u64, c: u64, d: u64, e: u64) -> usize
     requires { ⌜ at ≤ length (now out) ⌝ }
     ensures { λ r. ⌜ Put (now (out .entry)) (now (out .exit)) at r (a ∷ b ∷ c ∷ d ∷ e ∷ []) ⌝ }
@@ -125,6 +133,14 @@ pub(crate) fn give3(out: &mut [u64], a: u64, b: u64, c: u64) -> u64
     0
 }
 
+pub(crate) fn give4(out: &mut [u64], a: u64, b: u64, c: u64, d: u64) -> u64
+    ensures { λ r. ⌜ Says 0 (a ∷ b ∷ c ∷ d ∷ []) (now (out .entry)) (now (out .exit)) r ⌝ }
+{
+    let end = put4(out, 0, a, b, c, d);
+    clear_words(out, end);
+    0
+}
+
 pub(crate) fn give6(out: &mut [u64], a: u64, b: u64, c: u64, d: u64, e: u64, f: u64) -> u64
     ensures { λ r. ⌜ Says 0 (a ∷ b ∷ c ∷ d ∷ e ∷ f ∷ []) (now (out .entry)) (now (out .exit)) r ⌝ }
 {
@@ -141,7 +157,8 @@ pub(crate) fn put_attribute(out: &mut [u64], at: usize, attribute: Attribute) ->
     let numbers = value.numbers();
     let kind = numbers.kind;
     let case = kind.case();
-    put5(
+    let mark = bit_of(attribute.padded);
+    put6(
         out,
         at,
         attribute.name as u64,
@@ -149,6 +166,7 @@ pub(crate) fn put_attribute(out: &mut [u64], at: usize, attribute: Attribute) ->
         case.number as u64,
         numbers.low,
         numbers.high,
+        mark,
     )
 }
 

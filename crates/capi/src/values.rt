@@ -13,7 +13,7 @@ use attribute::parse::parse_attribute;
 use reader::fill::clear_words;
 
 // The value at `at` by its specification, in a part of a unit that starts at the offset `start`. Words:
-// the next place, then name, form, the number of the case and its two numbers.
+// the next place, then name, form, the number of the case, its two numbers and the mark.
 #[no_mangle]
 pub extern "C" fn tehkumir_read_attribute(
     bytes: &[u8],

@@ -26,7 +26,7 @@ use attribute::pass::pass_attributes;
 use attribute::value::Number;
 use reader::answer::Place;
 use reader::answer::Word;
-use reader::leb128::read_uleb128;
+use reader::leb128::uleb128;
 
 // Where reading goes on, and the offset and depth of the item last held or passed.
 pub struct Passing {
@@ -197,7 +197,7 @@ pub(crate) fn pass_nulls(from: Passing, bytes: &[u8], rows: &[u64], specs: &[u64
     let mut here = from;
     while here.raw.position < bytes.len() {
         let raw = here.raw;
-        match read_uleb128(bytes, raw.position) {
+        match uleb128(bytes, raw.position) {
             Word::Got(code, next) => {
                 if code == 0 {
                     let depth = depth_below(raw.depth);

@@ -41,7 +41,7 @@ use reader::answer::Word;
 use reader::common::Encoding;
 use reader::endianity::RunTimeEndian;
 use reader::error::Error;
-use reader::leb128::read_uleb128;
+use reader::leb128::uleb128;
 use unit::header::UnitHeader;
 
 pub struct EntriesRaw {
@@ -182,14 +182,14 @@ pub(crate) fn code_direct(bytes: &[u8], rows: &[u64], specs: &[u64], n: usize, a
     requires { ⌜ n ≤ leading (now rows) ⌝ }
     ensures { λ r. ⌜ viewCode r ≡ abbreviationAt (entryLimit .most) (now (bytes .entry)) (now (rows .entry)) (now (specs .entry)) at ⌝ }
 {
-    code_for(read_uleb128(bytes, at), rows, specs, n)
+    code_for(uleb128(bytes, at), rows, specs, n)
 }
 
 // The same by the lowest row with the code.
 fn code_at(bytes: &[u8], rows: &[u64], specs: &[u64], at: usize) -> Code
     ensures { λ r. ⌜ viewCode r ≡ abbreviationAt (entryLimit .most) (now (bytes .entry)) (now (rows .entry)) (now (specs .entry)) at ⌝ }
 {
-    code_for(read_uleb128(bytes, at), rows, specs, 0)
+    code_for(uleb128(bytes, at), rows, specs, 0)
 }
 
 // The state at another place and depth.

@@ -5,6 +5,7 @@ pub mod WordLaws
 pub mod Signs
 pub mod LebLaws
 pub mod Accepted
+pub mod PaddedLaws
 pub mod LimitLaws
 pub mod FieldLaws
 pub mod FillLaws

@@ -5,6 +5,7 @@ pub mod Sizes
 pub mod Words
 pub mod Twos
 pub mod Leb128
+pub mod Padded
 pub mod Fields
 pub mod Limits
 pub mod Views

@@ -5,12 +5,13 @@ use mathlib.Core.Path.{_≡_}
 use Prim.Native.Nat.{ℕ, _+_, _-_, _*_, _^_, _≤_, _<_}
 use lib.Dec.{ltb}
 use lib.IntN.{ℤ}
-use lib.ListN.{length, take, drop}
+use lib.ListN.{length, take, drop, getD}
 use lib.Signed.{mag}
 use Rattle.reader.specs.Twos.{twos}
 use Rattle.reader.specs.Answer.{Answer, got, refused, Read, gives}
 use Rattle.reader.specs.Words.{number}
-use Rattle.reader.specs.Leb128.{mostBytes, extent}
+use Rattle.reader.specs.Leb128.{mostBytes, extent, fitsUnsigned, fitsSigned}
+use Rattle.reader.specs.Padded.{fewer, zeroLast, signLast}
 use Rattle.reader.specs.declared.endianity.RunTimeEndian.{RunTimeEndian}
 use Rattle.reader.specs.declared.endianity.RunTimeEndian.the-variants.{Little, Big}
 use Rattle.reader.specs.declared.leb128.Parts.{Parts}
@@ -56,3 +57,16 @@ wholeOf w v sh b p = cond (ltb b (2 ^ (w - sh))) (gives (v + b * 2 ^ sh) p) (ref
 unfoldable pub integerOf : ℕ → ℕ → ℕ → ℕ → ℕ → Answer (Read ℤ)
 integerOf w v sh b p =
     cond (ltb (mag (twos 7 b)) (2 ^ (w - sh - 1))) (gives (twos (sh + 7) (v + b * 2 ^ sh)) p) (refused 4)
+
+-- an unsigned number was read from `at` on, and its last bytes say whether fewer would do
+pub record RuledUnsigned (s : List ℕ) (at : ℕ) (x : Read ℕ) : Type 0 where
+  pub above : at < x .next
+  pub within : x .next ≤ length s
+  pub rule : fewer fitsUnsigned (x .next - at) (x .value) ≡ zeroLast s at (x .next)
+
+-- the same of a signed one, whose byte before the last has the high bit
+pub record RuledSigned (s : List ℕ) (at : ℕ) (x : Read ℤ) : Type 0 where
+  pub above : at < x .next
+  pub within : x .next ≤ length s
+  pub before : 1 < x .next - at → 128 ≤ getD s (x .next - 2) 0
+  pub rule : fewer fitsSigned (x .next - at) (x .value) ≡ signLast s at (x .next)

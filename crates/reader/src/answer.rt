@@ -13,6 +13,18 @@ pub enum SignedWord {
     Refused(Error),
 }
 
+// An unsigned LEB128 number, the next place, how many bytes it has, and whether fewer would do.
+pub enum Unsigned {
+    Got(u64, usize, usize, bool),
+    Refused(Error),
+}
+
+// A signed one.
+pub enum Signed {
+    Got(i64, usize, usize, bool),
+    Refused(Error),
+}
+
 // The low and the high 64 bits of a word of 16 bytes, and the next place.
 pub enum WideWord {
     Got(u64, u64, usize),

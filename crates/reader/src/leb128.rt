@@ -4,12 +4,16 @@ ghost use mathlib.Core.Path.{_≡_};
 ghost use Prim.Native.Nat.{_+_, _-_, _*_, _^_, _≤_, _<_};
 ghost use lib.Dec.{ltb};
 ghost use lib.IntN.{pos, negsuc};
-ghost use Rattle.reader.specs.Answer.{gives};
-ghost use Rattle.reader.specs.Leb128.{ulebAt, slebAt, pastAt};
-ghost use Rattle.reader.specs.Parts.{Parted, Sound, wholeOf, integerOf};
-ghost use Rattle.reader.specs.Views.{viewWord, viewSignedWord, viewPlace};
+ghost use lib.ListN.{length, getD};
+ghost use Rattle.reader.specs.Answer.{gives, Holds};
+ghost use Rattle.reader.specs.Leb128.{fitsUnsigned, ulebAt, slebAt, pastAt};
+ghost use Rattle.reader.specs.Padded.{counted, ulebCountedAt, slebCountedAt, zeroLast, signLast};
+ghost use Rattle.reader.specs.Parts.{Parted, Sound, RuledUnsigned, wholeOf, integerOf};
+ghost use Rattle.reader.specs.Views.{viewWord, viewSignedWord, viewUnsigned, viewSigned, viewPlace};
 use super::answer::Place;
+use super::answer::Signed;
 use super::answer::SignedWord;
+use super::answer::Unsigned;
 use super::answer::Word;
 use super::error::Error;
 use super::words::wide;
@@ -98,13 +102,15 @@ fn unsigned(bytes: &[u8], at: usize, width: u64) -> Word
     unsigned_of_parts(bytes, at, width)
 }
 
-pub fn read_uleb128(bytes: &[u8], at: usize) -> Word
+// The readers of numbers alone, for those who need no more.
+
+pub fn uleb128(bytes: &[u8], at: usize) -> Word
     ensures { λ r. ⌜ viewWord r ≡ ulebAt (now (bytes .entry)) at 64 ⌝ }
 {
     unsigned(bytes, at, 64)
 }
 
-pub fn read_uleb128_u16(bytes: &[u8], at: usize) -> Word
+pub fn uleb128_u16(bytes: &[u8], at: usize) -> Word
     ensures { λ r. ⌜ viewWord r ≡ ulebAt (now (bytes .entry)) at 16 ⌝ }
 {
     unsigned(bytes, at, 16)
@@ -162,10 +168,74 @@ fn signed(bytes: &[u8], at: usize, width: u64) -> SignedWord
     }
 }
 
-pub fn read_sleb128(bytes: &[u8], at: usize) -> SignedWord
+pub fn sleb128(bytes: &[u8], at: usize) -> SignedWord
     ensures { λ r. ⌜ viewSignedWord r ≡ slebAt (now (bytes .entry)) at 64 ⌝ }
 {
     signed(bytes, at, 64)
+}
+
+// Whether the last byte of an unsigned number, from `at` up to `next`, is 0 and not its only one.
+fn zero_last(bytes: &[u8], at: usize, next: usize) -> bool
+    requires { ⌜ (at < next) × (next ≤ length (now bytes)) ⌝ }
+    ensures { λ r. ⌜ r ≡ zeroLast (now (bytes .entry)) at next ⌝ }
+{
+    if next - at < 2 {
+        return false;
+    }
+    bytes[next - 1] == 0
+}
+
+// Whether the last byte of a signed one repeats the sign. The byte before it has the high bit.
+fn sign_last(bytes: &[u8], at: usize, next: usize) -> bool
+    requires { ⌜ (at < next) × (next ≤ length (now bytes)) ⌝ }
+    requires { ⌜ (1 < next - at → 128 ≤ getD (now bytes) (next - 2) 0) ⌝ }
+    ensures { λ r. ⌜ r ≡ signLast (now (bytes .entry)) at next ⌝ }
+{
+    if next - at < 2 {
+        return false;
+    }
+    let before = wide(bytes[next - 2]);
+    if before < 0xc0 {
+        return bytes[next - 1] == 0;
+    }
+    bytes[next - 1] == 0x7f
+}
+
+fn count_bytes(bytes: &[u8], at: usize, read: Word) -> Unsigned
+    requires { ⌜ Holds (RuledUnsigned (now bytes) at) (viewWord read) ⌝ }
+    ensures { λ r. ⌜ viewUnsigned r ≡ counted fitsUnsigned at (viewWord read) ⌝ }
+{
+    match read {
+        Word::Got(value, next) => {
+            let padded = zero_last(bytes, at, next);
+            Unsigned::Got(value, next, next - at, padded)
+        }
+        Word::Refused(e) => Unsigned::Refused(e),
+    }
+}
+
+pub fn read_uleb128(bytes: &[u8], at: usize) -> Unsigned
+    ensures { λ r. ⌜ viewUnsigned r ≡ ulebCountedAt (now (bytes .entry)) at 64 ⌝ }
+{
+    count_bytes(bytes, at, uleb128(bytes, at))
+}
+
+pub fn read_uleb128_u16(bytes: &[u8], at: usize) -> Unsigned
+    ensures { λ r. ⌜ viewUnsigned r ≡ ulebCountedAt (now (bytes .entry)) at 16 ⌝ }
+{
+    count_bytes(bytes, at, uleb128_u16(bytes, at))
+}
+
+pub fn read_sleb128(bytes: &[u8], at: usize) -> Signed
+    ensures { λ r. ⌜ viewSigned r ≡ slebCountedAt (now (bytes .entry)) at 64 ⌝ }
+{
+    match sleb128(bytes, at) {
+        SignedWord::Got(value, next) => {
+            let padded = sign_last(bytes, at, next);
+            Signed::Got(value, next, next - at, padded)
+        }
+        SignedWord::Refused(e) => Signed::Refused(e),
+    }
 }
 
 // Past the first byte below `bound`.

@@ -63,8 +63,20 @@ fn standard() {
     numbers::signed(b"\xff\x7e");
 }
 
+// Document 02, request 2; those of 64 bits are proved too (specs/Examples.antt).
+fn padded() {
+    numbers::unsigned(b"\x80\x00");
+    numbers::unsigned(b"\xff\x00");
+    numbers::signed(b"\xff\x00");
+    numbers::signed(b"\x80\x7f");
+    numbers::signed(b"\xbf\x00");
+    numbers::signed(b"\xff\x7f");
+    numbers::short(b"\xff\x80\x00");
+}
+
 fn main() {
     proved();
     others();
     standard();
+    padded();
 }

@@ -1,4 +1,5 @@
 -- What demand 3 supposes can be met: a table and a unit as bytes, with a jump, and each supposition computed.
+use mathlib.Core.Bool.{false}
 use mathlib.Core.Path.{_≡_, refl}
 use mathlib.Core.Option.{Option, none, some, Option·none-ne-some, Option·some-injective}
 use mathlib.Core.List.{List, [], _∷_, map, Permᴰ·refl}
@@ -21,7 +22,8 @@ use Rattle.unit.specs.declared.header.UnitHeader.{UnitHeader}
 use Rattle.unit.specs.declared.header.UnitType.the-variants.{Compilation}
 use Rattle.attribute.specs.Attributes.{pad}
 use Rattle.attribute.specs.Forms.{forms, rowIn, row}
-use Rattle.attribute.specs.Read.{numbered, rawAt, resolve, finalForm, formAt, attributeAt, attributesAt}
+use Rattle.attribute.specs.Padded.{anyPadded, layoutNumbers, chain, formNumbers}
+use Rattle.attribute.specs.Read.{numbered, rawAt, resolve, finalForm, formAt, numbersAt, attributeAt, attributesAt}
 use Rattle.attribute.specs.Value.{valueUnder}
 use Rattle.attribute.specs.declared.form.Kind.the-variants as K
 use Rattle.entries.specs.Cursor.{openedCursor}
@@ -111,7 +113,7 @@ root = record { value = entryOf 64 11 (pos 0) (rowAt rows 0) []; next = 1 }
 
 -- A, with the offset of C
 abbrev a : flat.Item
-a = record { value = entryOf 64 12 (pos 1) (rowAt rows 1) (record { name = 1; form = 0x11; value = record { kind = K.UnitRef; low = 16; high = 0 } } ∷ []); next = 3 }
+a = record { value = entryOf 64 12 (pos 1) (rowAt rows 1) (record { name = 1; form = 0x11; padded = false; value = record { kind = K.UnitRef; low = 16; high = 0 } } ∷ []); next = 3 }
 
 abbrev b : flat.Item
 b = record { value = entryOf 64 14 (pos 2) (rowAt rows 2) []; next = 4 }
@@ -136,7 +138,7 @@ unfolding entryAt entryAfter abbreviationAt ulebAt leb128 extent through number 
 root-at = refl
 
 a-at : at 1 (pos 1) ≡ got a
-unfolding entryAt entryAfter abbreviationAt ulebAt leb128 extent through number lookup rowFound judgedRow attributesAt attributeAt formAt finalForm resolve row rowIn forms rawAt numbered wordAt spelled valueUnder
+unfolding entryAt entryAfter abbreviationAt ulebAt leb128 extent through number lookup rowFound judgedRow attributesAt attributeAt formAt finalForm resolve row rowIn forms rawAt numbered wordAt spelled valueUnder anyPadded layoutNumbers chain formNumbers numbersAt
 a-at = refl
 
 b-at : at 3 (pos 2) ≡ got b

@@ -20,9 +20,9 @@ parse-constant-spec =
     (λ c. search needs)
     -- returns
     (λ c.
-    rw (eq-eqb _ _ (c .before .before .before .before .before .if1 .taken), ← c .before .before .before .before .read-sleb128 .ensures, c .before .before .z .given .1)
+    rw (eq-eqb _ _ (c .before .before .before .before .before .if1 .taken), ← c .before .before .before .before .sleb128 .ensures, c .before .before .z .given .1)
     (ap (λ (v : ℕ). gives v (c .before .before .z .given .0 .1 .0)) (rw (toZ-ofZ {w = w64} {z = c .before .before .z .given .0 .0} (record { sfits = c .before .known-told .given .0 .1 })) at (c .to-word .ensures))))
     -- returns-2
-    (λ c. rw (eq-eqb _ _ (c .before .before .before .before .if1 .taken), ← c .before .before .before .read-sleb128 .ensures, c .before .e .given .1))
+    (λ c. rw (eq-eqb _ _ (c .before .before .before .before .if1 .taken), ← c .before .before .before .sleb128 .ensures, c .before .e .given .1))
     -- returns-3
     (λ c. rw (ne-eqb _ _ (c .if1 .left))))

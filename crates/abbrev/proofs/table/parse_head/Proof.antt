@@ -14,10 +14,10 @@ parse-head-spec =
     (λ c κs. search needs)
     (λ c. search needs)
     -- returns-2
-    (λ c. rw (lt-ltb _ _ (c .before .before .before .before .before .if1 .left), ← c .before .before .before .before .read-uleb128 .ensures, c .before .before .code .given .1, eq-eqb _ _ (c .if2 .taken)))
+    (λ c. rw (lt-ltb _ _ (c .before .before .before .before .before .if1 .left), ← c .before .before .before .before .uleb128 .ensures, c .before .before .code .given .1, eq-eqb _ _ (c .if2 .taken)))
     (λ c κs. search needs)
     (λ c. search needs)
     -- returns-3
-    (λ c. rw (lt-ltb _ _ (c .before .before .before .before .before .before .if1 .left), ← c .before .before .before .before .before .read-uleb128 .ensures, c .before .before .before .code .given .1, ne-eqb _ _ (c .before .if2 .left)) (c .parse-tagged .ensures))
+    (λ c. rw (lt-ltb _ _ (c .before .before .before .before .before .before .if1 .left), ← c .before .before .before .before .before .uleb128 .ensures, c .before .before .before .code .given .1, ne-eqb _ _ (c .before .if2 .left)) (c .parse-tagged .ensures))
     -- returns-4
-    (λ c. rw (lt-ltb _ _ (c .before .before .before .before .if1 .left), ← c .before .before .before .read-uleb128 .ensures, c .before .e .given .1)))
+    (λ c. rw (lt-ltb _ _ (c .before .before .before .before .if1 .left), ← c .before .before .before .uleb128 .ensures, c .before .e .given .1)))

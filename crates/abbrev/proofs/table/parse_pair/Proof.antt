@@ -16,8 +16,8 @@ parse-pair-spec =
     (λ c. search needs)
     (λ c. search needs)
     -- returns
-    (λ c. rw (← c .before .before .before .before .before .before .before .before .read-uleb128-u16 .ensures, c .before .before .before .before .before .before .name .given .1, ← c .before .before .before .before .read-uleb128-u162 .ensures, c .before .before .form .given .1) (c .judge .ensures))
+    (λ c. rw (← c .before .before .before .before .before .before .before .before .uleb128-u16 .ensures, c .before .before .before .before .before .before .name .given .1, ← c .before .before .before .before .uleb128-u162 .ensures, c .before .before .form .given .1) (c .judge .ensures))
     -- returns-2
-    (λ c. rw (← c .before .before .before .before .before .before .before .read-uleb128-u16 .ensures, c .before .before .before .before .before .name .given .1, ← c .before .before .before .read-uleb128-u162 .ensures, c .before .e .given .1))
+    (λ c. rw (← c .before .before .before .before .before .before .before .uleb128-u16 .ensures, c .before .before .before .before .before .name .given .1, ← c .before .before .before .uleb128-u162 .ensures, c .before .e .given .1))
     -- returns-3
-    (λ c. rw (← c .before .before .before .read-uleb128-u16 .ensures, c .before .e2 .given .1)))
+    (λ c. rw (← c .before .before .before .uleb128-u16 .ensures, c .before .e2 .given .1)))

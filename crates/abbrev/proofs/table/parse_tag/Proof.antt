@@ -12,9 +12,9 @@ parse-tag-spec =
     (λ c κs. search needs)
     (λ c. search needs)
     -- returns
-    (λ c. rw (← c .before .before .before .before .read-uleb128-u16 .ensures, c .before .before .tag .given .1, eq-eqb _ _ (c .if1 .taken)))
+    (λ c. rw (← c .before .before .before .before .uleb128-u16 .ensures, c .before .before .tag .given .1, eq-eqb _ _ (c .if1 .taken)))
     (λ c. search needs)
     -- returns-2
-    (λ c. rw (← c .before .before .before .before .read-uleb128-u16 .ensures, c .before .before .tag .given .1, ne-eqb _ _ (c .if1 .left)))
+    (λ c. rw (← c .before .before .before .before .uleb128-u16 .ensures, c .before .before .tag .given .1, ne-eqb _ _ (c .if1 .left)))
     -- returns-3
-    (λ c. rw (← c .before .before .before .read-uleb128-u16 .ensures, c .before .e .given .1)))
+    (λ c. rw (← c .before .before .before .uleb128-u16 .ensures, c .before .e .given .1)))

@@ -1,4 +1,5 @@
 use Rattle.abbrev.specs.Views.{specificationOf}
+use Rattle.attribute.proofs.PaddedLaws.{final-plainly}
 use Rattle.attribute.proofs.ReadLaws.{form-end}
 use borrow.Author.Needs.{needs}
 use Rattle.attribute.proofs.pass.pass_form.Statement.{statement}
@@ -16,6 +17,6 @@ pass-form-spec =
     (λ c κs. search needs)
     (λ c. search needs)
     -- returns
-    (λ c. λ start. rw (form-end (c .before .before .before .before .before .before .before .args .bytes .now) start (c .before .before .before .before .before .before .before .args .encoding) (c .before .before .before .before .before .before .before .args .endian) (specificationOf (c .before .before .before .before .before .before .before .args .spec)) (c .before .before .before .before .before .before .before .args .at), ← c .before .before .before .before .before .final-form .ensures, c .before .before .before .last .given .1, ← c .before .row-of .ensures) (c .pass-raw .ensures start))
+    (λ c. λ start. rw (form-end (c .before .before .before .before .before .before .before .args .bytes .now) start (c .before .before .before .before .before .before .before .args .encoding) (c .before .before .before .before .before .before .before .args .endian) (specificationOf (c .before .before .before .before .before .before .before .args .spec)) (c .before .before .before .before .before .before .before .args .at), final-plainly _ _ _ _ (c .before .before .before .before .before .final-form .ensures), c .before .before .before .last .given .1, ← c .before .row-of .ensures) (c .pass-raw .ensures start))
     -- returns-2
-    (λ c. λ start. rw (form-end (c .before .before .before .before .before .args .bytes .now) start (c .before .before .before .before .before .args .encoding) (c .before .before .before .before .before .args .endian) (specificationOf (c .before .before .before .before .before .args .spec)) (c .before .before .before .before .before .args .at), ← c .before .before .before .final-form .ensures, c .before .e .given .1)))
+    (λ c. λ start. rw (form-end (c .before .before .before .before .before .args .bytes .now) start (c .before .before .before .before .before .args .encoding) (c .before .before .before .before .before .args .endian) (specificationOf (c .before .before .before .before .before .args .spec)) (c .before .before .before .before .before .args .at), final-plainly _ _ _ _ (c .before .before .before .final-form .ensures), c .before .e .given .1)))

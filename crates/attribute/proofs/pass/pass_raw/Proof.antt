@@ -84,7 +84,7 @@ pass-raw-spec =
     -- returns-10
     (λ c. λ start. rw (c .before .before .before .before .enum-told9 .given .1, numbered-end (refAddrAt (c .before .before .before .before .before .before .before .args .bytes .now) (c .before .before .before .before .before .before .before .args .at) (c .before .before .before .before .before .before .before .args .encoding) (c .before .before .before .before .before .before .before .args .endian)), ref-addr-end (c .before .before .before .before .before .before .before .args .bytes .now) (c .before .before .before .before .before .before .before .args .at) (c .before .before .before .before .before .before .before .args .encoding) (c .before .before .before .before .before .before .before .args .endian), ne-eqb _ 2 (c .before .before .if1 .left), ← c .before .word-size2 .ensures) (c .skip8 .ensures))
     -- returns-11
-    (λ c. λ start. rw (c .before .before .enum-told10 .given .1, numbered-end (ulebAt (c .before .before .before .before .before .args .bytes .now) (c .before .before .before .before .before .args .at) 64), ← c .before .read-uleb128 .ensures) (c .place .ensures))
+    (λ c. λ start. rw (c .before .before .enum-told10 .given .1, numbered-end (ulebAt (c .before .before .before .before .before .args .bytes .now) (c .before .before .before .before .before .args .at) 64), ← c .before .uleb128 .ensures) (c .place .ensures))
     -- returns-12
     (λ c. λ start. rw (c .before .enum-told11 .given .1) (c .pass-signed .ensures))
     -- returns-13
@@ -94,7 +94,7 @@ pass-raw-spec =
     -- returns-15
     (λ c. λ start. rw (c .before .before .enum-told14 .given .1, block-end (c .before .before .before .before .before .args .bytes .now) start (wordAt (c .before .before .before .before .before .args .bytes .now) (c .before .before .before .before .before .args .at) 4 (c .before .before .before .before .before .args .endian)), ← c .before .read-u32 .ensures) (c .pass-block3 .ensures))
     -- returns-16
-    (λ c. λ start. rw (c .before .before .enum-told15 .given .1, block-end (c .before .before .before .before .before .args .bytes .now) start (ulebAt (c .before .before .before .before .before .args .bytes .now) (c .before .before .before .before .before .args .at) 64), ← c .before .read-uleb1282 .ensures) (c .pass-block4 .ensures))
+    (λ c. λ start. rw (c .before .before .enum-told15 .given .1, block-end (c .before .before .before .before .before .args .bytes .now) start (ulebAt (c .before .before .before .before .before .args .bytes .now) (c .before .before .before .before .before .args .at) 64), ← c .before .uleb1282 .ensures) (c .pass-block4 .ensures))
     -- returns-17
     (λ c. λ start. rw (c .before .enum-told16 .given .1) (c .pass-string .ensures start))
     -- returns-18

@@ -11,6 +11,6 @@ pass-signed-spec =
     (λ c. search needs)
     (λ c. search needs)
     -- returns
-    (λ c. rw (signed-end (c .before .before .before .before .before .args .bytes .now) (c .before .before .before .before .before .args .at), ← c .before .before .before .read-sleb128 .ensures, c .before .next .given .1))
+    (λ c. rw (signed-end (c .before .before .before .before .before .args .bytes .now) (c .before .before .before .before .before .args .at), ← c .before .before .before .sleb128 .ensures, c .before .next .given .1))
     -- returns-2
-    (λ c. rw (signed-end (c .before .before .before .before .before .args .bytes .now) (c .before .before .before .before .before .args .at), ← c .before .before .before .read-sleb128 .ensures, c .before .e .given .1)))
+    (λ c. rw (signed-end (c .before .before .before .before .before .args .bytes .now) (c .before .before .before .before .before .args .at), ← c .before .before .before .sleb128 .ensures, c .before .e .given .1)))

@@ -1,3 +1,5 @@
+use Rattle.attribute.proofs.PaddedLaws.{one-padded}
+use Rattle.attribute.specs.Padded.{anyPadded, layoutNumbers}
 use Rattle.attribute.specs.Read.{rawAt}
 use Rattle.reader.proofs.WordLaws.{word-one}
 use Rattle.reader.specs.declared.endianity.RunTimeEndian.the-variants.{Little}
@@ -6,7 +8,7 @@ use Rattle.attribute.proofs.raw.raw_at.Statement.{statement}
 use Rattle.attribute.proofs.raw.raw_at.Tie as tie
 
 pub raw-at-spec : {M : Type 1} → statement M
-unfolding rawAt
+unfolding rawAt layoutNumbers anyPadded
 raw-at-spec =
     tie.close
     (tie.spec
@@ -38,7 +40,6 @@ raw-at-spec =
     (λ c κs. search needs)
     (λ c. search needs)
     (λ c κs. search needs)
-    (λ c κs. search needs)
     (λ c. search needs)
     (λ c κs. search needs)
     (λ c. search needs)
@@ -51,7 +52,6 @@ raw-at-spec =
     (λ c κs. search needs)
     (λ c κs. search needs)
     (λ c. search needs)
-    (λ c κs. search needs)
     (λ c κs. search needs)
     (λ c. search needs)
     (λ c κs. search needs)
@@ -78,9 +78,9 @@ raw-at-spec =
     -- returns-9
     (λ c. rw (c .before .before .enum-told9 .given .1, ← c .before .read-ref-addr .ensures) (c .number8 .ensures))
     -- returns-10
-    (λ c. rw (c .before .before .enum-told10 .given .1, ← c .before .read-uleb128 .ensures) (c .number9 .ensures))
+    (λ c. rw (c .before .enum-told10 .given .1, one-padded _ _) (c .unsigned .ensures))
     -- returns-11
-    (λ c. rw (c .before .enum-told11 .given .1) (c .signed .ensures))
+    (λ c. rw (c .before .enum-told11 .given .1, one-padded _ _) (c .signed .ensures))
     -- returns-12
     (λ c. rw (c .before .before .enum-told12 .given .1, word-one _ _ (c .before .before .before .before .before .args .endian) Little, ← c .before .read-u82 .ensures) (c .block .ensures))
     -- returns-13
@@ -88,7 +88,7 @@ raw-at-spec =
     -- returns-14
     (λ c. rw (c .before .before .enum-told14 .given .1, ← c .before .read-u322 .ensures) (c .block3 .ensures))
     -- returns-15
-    (λ c. rw (c .before .before .enum-told15 .given .1, ← c .before .read-uleb1282 .ensures) (c .block4 .ensures))
+    (λ c. rw (c .before .enum-told15 .given .1, one-padded _ _) (c .measured .ensures))
     -- returns-16
     (λ c. rw (c .before .enum-told16 .given .1) (c .string .ensures))
     -- returns-17

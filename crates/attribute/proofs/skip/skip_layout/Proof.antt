@@ -78,7 +78,7 @@ skip-layout-spec =
     -- returns-15
     (λ c. rw (c .before .before .enum-told14 .given .1, ← c .before .read-u32 .ensures) (c .pending-count3 .ensures))
     -- returns-16
-    (λ c. rw (c .before .before .enum-told15 .given .1, ← c .before .read-uleb128 .ensures) (c .pending-count4 .ensures))
+    (λ c. rw (c .before .before .enum-told15 .given .1, ← c .before .uleb128 .ensures) (c .pending-count4 .ensures))
     -- returns-17
     (λ c. rw (c .before .enum-told16 .given .1) (c .pending-string .ensures))
     -- returns-18

@@ -1,3 +1,4 @@
+use Rattle.attribute.proofs.PaddedLaws.{final-plainly}
 use Rattle.attribute.specs.Skip.{pastValue}
 use borrow.Author.Needs.{needs}
 use Rattle.attribute.proofs.skip.skip_variable.Statement.{statement}
@@ -15,6 +16,6 @@ skip-variable-spec =
     (λ c κs. search needs)
     (λ c. search needs)
     -- returns
-    (λ c. rw (← c .before .before .before .before .before .final-form .ensures, c .before .before .before .last .given .1, ← c .before .row-of .ensures) (c .skip-layout .ensures))
+    (λ c. rw (final-plainly _ _ _ _ (c .before .before .before .before .before .final-form .ensures), c .before .before .before .last .given .1, ← c .before .row-of .ensures) (c .skip-layout .ensures))
     -- returns-2
-    (λ c. rw (← c .before .before .before .final-form .ensures, c .before .e .given .1)))
+    (λ c. rw (final-plainly _ _ _ _ (c .before .before .before .final-form .ensures), c .before .e .given .1)))

@@ -10,4 +10,4 @@ tehkumir-read-uleb128-u16-spec =
     (λ c κs. search needs)
     (λ c. search needs)
     -- returns
-    (λ c. rw (← c .before .before .before .before .read-uleb128-u16 .ensures) (c .before .before .give-word .ensures)))
+    (λ c. rw (← c .before .before .before .before .read-uleb128-u16 .ensures) (c .before .before .give-unsigned .ensures)))

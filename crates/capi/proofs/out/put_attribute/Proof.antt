@@ -8,10 +8,11 @@ put-attribute-spec =
     (tie.spec
     (λ c κs. search needs)
     (λ c κs. search needs)
+    (λ c κs. search needs)
     (λ c. search needs)
     (λ c. search needs)
     (λ c. search needs)
     (λ c κs. search needs)
     (λ c. search needs)
     -- returns
-    (λ c. rw (← c .before .before .before .before .before .before .before .before .numbers .ensures, ← c .before .before .before .before .before .before .before .case .ensures) (c .before .before .put5 .ensures)))
+    (λ c. rw (← c .before .before .before .before .before .before .before .before .before .numbers .ensures, ← c .before .before .before .before .before .before .before .before .case .ensures, ← c .before .before .before .before .before .before .before .bit-of .ensures) (c .before .before .put6 .ensures)))

@@ -11,4 +11,4 @@ code-at-spec =
     (λ c κs. search needs)
     (λ c κs. search needs)
     -- returns
-    (λ c. rw (← c .before .read-uleb128 .ensures) (c .code-for .ensures)))
+    (λ c. rw (← c .before .uleb128 .ensures) (c .code-for .ensures)))
