@@ -1,7 +1,13 @@
 -- Laws of what holds of an answer's value.
 use mathlib.Core.Bool.{Bool, true, false, cond}
 use mathlib.Core.Path.{◌≡◌, refl}
+use Rattle.std.specs.Prelude.{Result, ℕ}
+use Rattle.std.specs.Result.{IsErrAnd}
+use Rattle.std.proofs.lemmas.Result.{err_from_is_err_and}
 use Rattle.reader.specs.Answer.{Answer, got, refused, and_then, Read, end_of, Holds}
+use Rattle.reader.specs.Errors.{number_of}
+use Rattle.reader.specs.Views.{view, view_read}
+use Rattle.reader.specs.declared.error.Error.{Error}
 
 -- of what follows a value of which Q holds
 pub holds_then : {A B : Type 0} (Q : A → Type 0) (P : B → Type 0) (r : Answer A) (f : A → Answer B) → Holds Q r → ((a : A) → Q a → Holds P (f a)) → Holds P (and_then r f)
@@ -37,3 +43,10 @@ then_same P (refused n) f g h k = refl
 pub then_got : {A : Type 0} (r : Answer A) → and_then r (λ a. got a) ≡ r
 then_got (got a) = refl
 then_got (refused n) = refl
+
+-- the exit of a `?`
+pub refuses : {A : Type 0} (r : Result A Error) (e : Error) → IsErrAnd r (λ x. x ≡ e) → view r ≡ refused (number_of e)
+refuses r e h = let p = err_from_is_err_and r h in rw (p.1, p.2)
+
+pub refuses_read : {A : Type 0} (r : Result (A × ℕ) Error) (e : Error) → IsErrAnd r (λ x. x ≡ e) → view_read r ≡ refused (number_of e)
+refuses_read r e h = let p = err_from_is_err_and r h in rw (p.1, p.2)

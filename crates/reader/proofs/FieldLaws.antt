@@ -8,7 +8,9 @@ use borrow.Author.Tests.{le-leb, lt-leb, ne_eqb, leb-true, leb-false}
 use lib.Dec.{leb, ltb, eqb}
 use lib.ListN.{length}
 use Rattle.reader.specs.Answer.{Answer, got, refused, and_then, Read, end_of, Holds}
-use Rattle.reader.specs.Fields.{Span, is_address_size, offset_at, address_at, null_terminated_at, skip_at, word_size, initial_length_size, Initial, long_length_at, initial_length_at}
+use Rattle.reader.specs.Fields.{is_address_size, offset_at, address_at, null_terminated_at, skip_at, word_size, initial_length_size, long_length_at, initial_length_at}
+use Rattle.reader.specs.declared.answer.Initial.{Initial}
+use Rattle.reader.specs.declared.answer.Span.{Span}
 use Rattle.reader.specs.Leb128.{past_at}
 use Rattle.reader.specs.Words.{word_at, halves_at}
 use Rattle.reader.proofs.Accepted.{past_in}

@@ -15,7 +15,8 @@ use lib.Seq.{get_or-drop, length-take-le, take_all}
 use lib.Signed.{mag}
 use Rattle.reader.specs.Answer.{Answer, got, refused, and_then, Read, gives, placed, Holds}
 use Rattle.reader.specs.Leb128.{through, most_bytes, extent, leb128, unsigned, fits_unsigned, signed, fits_signed, uleb_at, sleb_at}
-use Rattle.reader.specs.Padded.{Fewer, fewer, Counted, counted, uleb_counted_at, sleb_counted_at, zero_last, sign_last}
+use Rattle.reader.specs.Padded.{Fewer, fewer, counted, uleb_counted_at, sleb_counted_at, zero_last, sign_last}
+use Rattle.reader.specs.declared.answer.Counted.{Counted}
 use Rattle.reader.specs.Parts.{RuledUnsigned, RuledSigned}
 use Rattle.reader.specs.Twos.{twos, word}
 use Rattle.reader.specs.Words.{number}

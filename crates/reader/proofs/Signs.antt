@@ -11,7 +11,7 @@ use lib.IntN.{ℤ, pos, negsuc, ◌-ℤ◌, nat_abs}
 use lib.Pow.{pow-add, pow_mono}
 use lib.Signed.{mag, le_z, non_neg}
 use mir.Syntax.{w64}
-use mir.Val.{to_z}
+use mir.Val.{to_z, of_z}
 use mir.Facts.{to_z_pos}
 use Rattle.reader.specs.Twos.{twos, word}
 use Rattle.reader.proofs.Numbers.{lt_or_le, ltb_bits}
@@ -123,3 +123,15 @@ extend_high n m v l k h b =
     let p = pow_mono {i = n - 1} {j = m - 1} (omega arith) in
     let q : 2 ^ m - 1 - (v + (2 ^ m - 2 ^ n)) ≡ 2 ^ n - 1 - v = omega arith in
     twos_high m (v + (2 ^ m - 2 ^ n)) (omega arith) (omega arith) ∙ ap negsuc q ∙ sym (twos_high n v h b)
+
+-- std's casts
+pub word_cast : (z : ℤ) → of_z w64 z ≡ word 64 z
+unfolding word
+word_cast (pos k) = refl
+word_cast (negsuc k) = omega arith
+
+pub twos_cast : (n : ℕ) → n < 2 ^ 64 → to_z w64 n ≡ twos 64 n
+twos_cast n k = ⊎_elim (λ h. to_z_pos w64 h ∙ sym (twos_low 64 n h)) high (lt_or_le n (2 ^ 63))
+  where
+    high : 2 ^ 63 ≤ n → to_z w64 n ≡ twos 64 n
+    high h = rw (le-ltb n (2 ^ 63) h, twos_high 64 n h k) (ap negsuc (omega arith))

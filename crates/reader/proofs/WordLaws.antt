@@ -11,9 +11,10 @@ use lib.Pow.{high, low, shl_exact}
 use mathlib.Core.Logic.{⊎_elim}
 use lib.ListN.{length, take, drop, get_or, length-drop, length-reverse}
 use lib.Seq.{take-add, drop-drop, drop-cons, length-take-le}
-use Rattle.reader.specs.Answer.{refused, gives, Read, Holds}
+use Rattle.reader.specs.Answer.{refused, and_then, gives, Read, Holds}
 use Rattle.reader.specs.Parts.{Joins, joined}
-use Rattle.reader.specs.Words.{number, ordered, spelled, word_at, Halves, halves, halves_at}
+use Rattle.reader.specs.Words.{number, ordered, spelled, word_at, halves, halves_at}
+use Rattle.reader.specs.declared.answer.Halves.{Halves}
 use Rattle.reader.specs.declared.endianity.RunTimeEndian.{RunTimeEndian}
 use Rattle.reader.specs.declared.endianity.RunTimeEndian.TheVariants.{Little, Big}
 use Rattle.reader.proofs.Numbers.{number_below, number_append, lt_or_le, above_fits}
@@ -69,8 +70,8 @@ unfolding spelled number
 spelled_one s at Little h = rw (drop-cons s at 0 h) (omega arith)
 spelled_one s at Big h = rw (drop-cons s at 0 h) (omega arith)
 
-pub byte_spelled : (s : List ℕ) (at : ℕ) (e : RunTimeEndian) {b : ℕ} → at < length s → b ≡ get_or s at 0 → b < 256 → b ≡ spelled s at 1 e
-byte_spelled s at e h q l = rw (spelled_one s at e h, ← q) (omega arith)
+pub byte_spelled : (s : List ℕ) (at : ℕ) (e : RunTimeEndian) {b : ℕ} → at < length s → b ≡ get_or s at 0 → get_or s at 0 < 256 → b ≡ spelled s at 1 e
+byte_spelled s at e h q l = rw (spelled_one s at e h, q) (omega arith)
 
 -- where the bytes are there, and where they are not
 pub word_there : (s : List ℕ) (at n : ℕ) (e : RunTimeEndian) → at + n ≤ length s → word_at s at n e ≡ gives (spelled s at n e) (at + n)
@@ -121,7 +122,7 @@ halves_of : (lo hi : ℕ) → lo < 2 ^ 64 → halves (hi * 2 ^ 64 + lo) ≡ reco
 halves_of lo hi h = rw (high hi 64 h, low hi 64 h)
 
 -- the first and the second word of 8 bytes as halves
-abbrev halved : RunTimeEndian → ℕ → ℕ → Halves
+abbrev pub halved : RunTimeEndian → ℕ → ℕ → Halves
 halved Little x y = record { low = x; high = y }
 halved Big x y = record { low = y; high = x }
 
@@ -134,3 +135,18 @@ halves_got s at e {x} {y} h p q =
     let a : x < 2 ^ 64 = rw p (spelled_below s at 8 e (omega arith)) in
     let b : y < 2 ^ 64 = rw q (spelled_below s (at + 8) 8 e (omega arith)) in
     rw (halves_there s at e h, spelled_join s at 8 8 e h, ← p, ← q, halves_joined e x y a b)
+
+-- 16 bytes as two words of 8
+pub halves_read : (s : List ℕ) (at : ℕ) (e : RunTimeEndian) → halves_at s at e ≡ and_then (word_at s at 8 e) (λ a. and_then (word_at s a.next 8 e) (λ b. gives (halved e a.value b.value) b.next))
+halves_read s at e = ⊎_elim short (λ h. ⊎_elim half there (lt_or_le (length s) (at + 16)) h) (lt_or_le (length s) (at + 8))
+  where
+    short : length s < at + 8 → halves_at s at e ≡ and_then (word_at s at 8 e) (λ a. and_then (word_at s a.next 8 e) (λ b. gives (halved e a.value b.value) b.next))
+    short h = rw (halves_short s at e (omega arith), word_short s at 8 e h)
+
+    half : length s < at + 16 → at + 8 ≤ length s → halves_at s at e ≡ and_then (word_at s at 8 e) (λ a. and_then (word_at s a.next 8 e) (λ b. gives (halved e a.value b.value) b.next))
+    half h k = rw (halves_short s at e h, word_there s at 8 e k, word_short s (at + 8) 8 e (omega arith))
+
+    there : at + 16 ≤ length s → at + 8 ≤ length s → halves_at s at e ≡ and_then (word_at s at 8 e) (λ a. and_then (word_at s a.next 8 e) (λ b. gives (halved e a.value b.value) b.next))
+    there h k =
+        let n : at + 8 + 8 ≡ at + 16 = omega arith in
+        rw (word_there s at 8 e k, word_there s (at + 8) 8 e (omega arith), n) (sym (halves_got s at e h refl refl))

@@ -4,6 +4,8 @@ use Rattle.std.proofs.Math.ListN as list
 use Rattle.reader.specs.Answer.{Answer, got, refused, and_then, Read, gives}
 use Rattle.reader.specs.Words.{word_at}
 use Rattle.reader.specs.Leb128.{past_at}
+use Rattle.reader.specs.declared.answer.Initial.{Initial}
+use Rattle.reader.specs.declared.answer.Span.{Span}
 use Rattle.reader.specs.declared.common.Format.{Format}
 use Rattle.reader.specs.declared.common.Format.TheVariants.{Dwarf32, Dwarf64}
 use Rattle.reader.specs.declared.endianity.RunTimeEndian.{RunTimeEndian}
@@ -23,12 +25,7 @@ initial_length_size Dwarf64 = 12
 unfoldable pub offset_at : List ℕ → ℕ → Format → RunTimeEndian → Answer (Read ℕ)
 offset_at s at f e = word_at s at (word_size f) e
 
--- 7.4: the length of what follows, and the format
-pub record Initial : Type 0 where
-  pub unit_length : ℕ
-  pub format : Format
-
--- 7.4: the length after 0xffffffff
+-- 7.4: the length of what follows after 0xffffffff, and the format
 unfoldable pub long_length_at : List ℕ → ℕ → RunTimeEndian → Answer (Read Initial)
 long_length_at s at e =
     and_then (word_at s at 8 e) (λ r. gives (record { unit_length = r.value; format = Dwarf64 }) r.next)
@@ -53,11 +50,6 @@ address_size_at s at = and_then (word_at s at 1 Little) (λ r. cond (is_address_
 -- DWARF 5, 7.5.5, class address; DWARF 2 to 4, 7.5.4: an address, or an offset of version 2, of n bytes; the width is judged before the bytes
 unfoldable pub address_at : List ℕ → ℕ → ℕ → RunTimeEndian → Answer (Read ℕ)
 address_at s at n e = cond (is_address_size n) (word_at s at n e) (refused 7)
-
--- bytes by their place and count
-pub record Span : Type 0 where
-  pub start : ℕ
-  pub len : ℕ
 
 -- DWARF 5, 7.5.5, class string; DWARF 2 to 4, 7.5.4: bytes that end with a zero byte, without it
 unfoldable pub null_terminated_at : List ℕ → ℕ → Answer (Read Span)

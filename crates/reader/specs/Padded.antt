@@ -1,6 +1,7 @@
 -- Document 02, request 2: LEB128 numbers with the count of their bytes, and whether fewer would do.
 use Rattle.std.specs.Prelude.{Bool, cond, ◌&&◌, List, ◌≡◌, ℕ, ◌-◌, ◌*◌, ◌%◌, ◌<◌, eqb, ltb, ℤ, length, get_or}
 use Rattle.reader.specs.Answer.{Answer, and_then, Read, gives}
+use Rattle.reader.specs.declared.answer.Counted.{Counted}
 use Rattle.reader.specs.Leb128.{fits_unsigned, fits_signed, uleb_at, sleb_at}
 
 -- fewer than k bytes would do: some shorter list of bytes is read by the same reader to the same number
@@ -15,13 +16,7 @@ pub record Fewer {A : Type 0} (read : List ℕ → Answer (Read A)) (k : ℕ) (v
 abbrev pub fewer : {A : Type 0} → (ℕ → A → Bool) → ℕ → A → Bool
 fewer fits k v = ltb 1 k && fits (7 * (k - 1)) v
 
--- a number, how many bytes it has, and whether fewer would do
-pub record Counted (A : Type 0) : Type 0 where
-  pub number : A
-  pub count : ℕ
-  pub padded : Bool
-
--- a number that was read at a place, with both
+-- a number that was read at a place, how many bytes it has, and whether fewer would do
 abbrev pub counted : {A : Type 0} → (ℕ → A → Bool) → ℕ → Answer (Read A) → Answer (Read (Counted A))
 counted fits at r =
     and_then r

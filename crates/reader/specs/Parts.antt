@@ -1,15 +1,16 @@
 -- What the private functions promise: how words and LEB128 numbers are put together.
-use Rattle.std.specs.Prelude.{cond, List, ◌≡◌, ℕ, ◌+◌, ◌-◌, ◌*◌, ◌^◌, ◌≤◌, ◌<◌, ltb, ℤ, length, take, drop, get_or}
+use Rattle.std.specs.Prelude.{cond, List, Result, Ok, Err, ◌≡◌, ℕ, ◌+◌, ◌-◌, ◌*◌, ◌^◌, ◌≤◌, ◌<◌, ltb, ℤ, length, take, drop, get_or}
 use Rattle.std.specs.Int.Signed.{mag}
 use Rattle.reader.specs.Twos.{twos}
 use Rattle.reader.specs.Answer.{Answer, got, refused, Read, gives}
+use Rattle.reader.specs.Errors.{number_of}
 use Rattle.reader.specs.Words.{number}
 use Rattle.reader.specs.Leb128.{most_bytes, extent, fits_unsigned, fits_signed}
 use Rattle.reader.specs.Padded.{fewer, zero_last, sign_last}
 use Rattle.reader.specs.declared.endianity.RunTimeEndian.{RunTimeEndian}
 use Rattle.reader.specs.declared.endianity.RunTimeEndian.TheVariants.{Little, Big}
+use Rattle.reader.specs.declared.error.Error.{Error}
 use Rattle.reader.specs.declared.leb128.Parts.{Parts}
-use Rattle.reader.specs.declared.leb128.Parts.TheVariants.{Last, Short, Long}
 
 -- x of a bytes and y of b bytes make a word of at most 8
 pub record Joins (a b x y : ℕ) : Type 0 where
@@ -38,10 +39,10 @@ pub record Ended (s : List ℕ) (at w v sh b p : ℕ) : Type 0 where
   pub count : (n : ℕ) → extent (most_bytes w) n (drop at s) ≡ got (p - at)
   pub worth : number 7 (take (p - at) (drop at s)) ≡ v + b * 2 ^ sh
 
-abbrev pub Parted : List ℕ → ℕ → ℕ → Parts → Type 0
-Parted s at w (Last v sh b p) = Ended s at w v sh b p
-Parted s at w Short = (n : ℕ) → extent (most_bytes w) n (drop at s) ≡ refused 2
-Parted s at w Long = (n : ℕ) → extent (most_bytes w) n (drop at s) ≡ refused n
+-- the parts of the number at a place, or its refusal, which is `long` where it has more bytes than it may
+abbrev pub Parted : List ℕ → ℕ → ℕ → Error → Result (Parts × ℕ) Error → Type 0
+Parted s at w long (Ok x) = Ended s at w x.0.below x.0.shift x.0.last x.1
+Parted s at w long (Err e) = extent (most_bytes w) (number_of long) (drop at s) ≡ refused (number_of e)
 
 -- the unsigned number of w bits by its parts: the last byte fits the bits left
 unfoldable pub whole_of : ℕ → ℕ → ℕ → ℕ → ℕ → Answer (Read ℕ)

@@ -2,6 +2,7 @@
 -- and the values of forms (DWARF 5, 7.5.5; DWARF 2 to 4, 7.5.4).
 use Rattle.std.specs.Prelude.{Bool, true, false, cond, List, [], ◌∷◌, reverse, ℕ, ◌+◌, ◌*◌, ◌/◌, ◌%◌, ◌^◌, leb, length, take, drop}
 use Rattle.reader.specs.Answer.{Answer, refused, and_then, Read, gives}
+use Rattle.reader.specs.declared.answer.Halves.{Halves}
 use Rattle.reader.specs.declared.endianity.RunTimeEndian.{RunTimeEndian}
 use Rattle.reader.specs.declared.endianity.RunTimeEndian.TheVariants.{Little, Big}
 
@@ -28,10 +29,6 @@ unfoldable pub word_at : List ℕ → ℕ → ℕ → RunTimeEndian → Answer (
 word_at s at n e = cond (leb (at + n) (length s)) (gives (spelled s at n e) (at + n)) (refused 2)
 
 -- the low and the high 64 bits of a number of 128
-pub record Halves : Type 0 where
-  pub low : ℕ
-  pub high : ℕ
-
 abbrev pub halves : ℕ → Halves
 halves n = record { low = n % 2 ^ 64; high = n / 2 ^ 64 }
 

@@ -1,57 +1,36 @@
-// What readers answer: a value with the place after its last byte, or a refusal.
+// What readers answer.
 
 use super::common::Format;
 use super::error::Error;
 
-#[derive(Clone, Copy)]
-pub enum Word {
-    Got(u64, usize),
-    Refused(Error),
+// A value and the place after its last byte, or a refusal.
+pub type Read<T> = Result<(T, usize), Error>;
+
+// A LEB128 number, how many bytes it has, and whether fewer would do.
+#[derive(Clone, Copy, Debug, PartialEq, Eq)]
+pub struct Counted<T> {
+    pub number: T,
+    pub count: usize,
+    pub padded: bool,
 }
 
-#[derive(Clone, Copy)]
-pub enum SignedWord {
-    Got(i64, usize),
-    Refused(Error),
+// The low and the high 64 bits of a word of 16 bytes.
+#[derive(Clone, Copy, Debug, PartialEq, Eq)]
+pub struct Halves {
+    pub low: u64,
+    pub high: u64,
 }
 
-// An unsigned LEB128 number, the next place, how many bytes it has, and whether fewer would do.
-#[derive(Clone, Copy)]
-pub enum Unsigned {
-    Got(u64, usize, usize, bool),
-    Refused(Error),
+// An initial length and its format.
+#[derive(Clone, Copy, Debug, PartialEq, Eq)]
+pub struct Initial {
+    pub unit_length: u64,
+    pub format: Format,
 }
 
-// A signed one.
-#[derive(Clone, Copy)]
-pub enum Signed {
-    Got(i64, usize, usize, bool),
-    Refused(Error),
-}
-
-// The low and the high 64 bits of a word of 16 bytes, and the next place.
-#[derive(Clone, Copy)]
-pub enum WideWord {
-    Got(u64, u64, usize),
-    Refused(Error),
-}
-
-// An initial length and its format, and the next place.
-#[derive(Clone, Copy)]
-pub enum InitialLength {
-    Got(u64, Format, usize),
-    Refused(Error),
-}
-
-// The place of bytes and how many they are, and the next place.
-#[derive(Clone, Copy)]
-pub enum Bytes {
-    Got(usize, usize, usize),
-    Refused(Error),
-}
-
-#[derive(Clone, Copy)]
-pub enum Place {
-    At(usize),
-    Refused(Error),
+// Bytes by their place and how many they are.
+#[derive(Clone, Copy, Debug, PartialEq, Eq)]
+pub struct Span {
+    pub start: usize,
+    pub len: usize,
 }

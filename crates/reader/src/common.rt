@@ -6,7 +6,7 @@ ghost use Rattle.reader.specs.Fields.{word_size, initial_length_size};
 // The bytes that a section has at most.
 pub const MAX_SECTION: usize = 0x7fff_ffff;
 
-#[derive(Clone, Copy)]
+#[derive(Clone, Copy, Debug, PartialEq, Eq)]
 pub enum Format {
     Dwarf64,
     Dwarf32,
@@ -35,7 +35,7 @@ impl Format {
 }
 
 // What the header of a unit says of the values in it.
-#[derive(Clone, Copy)]
+#[derive(Clone, Copy, Debug, PartialEq, Eq)]
 pub struct Encoding {
     pub address_size: u8,
     pub format: Format,

@@ -3,7 +3,7 @@
 ghost use Rattle.std.specs.Prelude.{◌≡◌, not};
 ghost use Rattle.reader.specs.Words.{is_big};
 
-#[derive(Clone, Copy)]
+#[derive(Clone, Copy, Debug, PartialEq, Eq)]
 pub enum RunTimeEndian {
     Little,
     Big,
@@ -13,18 +13,12 @@ impl RunTimeEndian {
     pub fn is_big_endian(self) -> bool
         ensures { result ≡ is_big self }
     {
-        match self {
-            RunTimeEndian::Little => false,
-            RunTimeEndian::Big => true,
-        }
+        self == RunTimeEndian::Big
     }
 
     pub fn is_little_endian(self) -> bool
         ensures { result ≡ not (is_big self) }
     {
-        match self {
-            RunTimeEndian::Little => true,
-            RunTimeEndian::Big => false,
-        }
+        !self.is_big_endian()
     }
 }

@@ -3,54 +3,43 @@
 ghost use Rattle.std.specs.Prelude.{◌≡◌};
 ghost use Rattle.reader.specs.Errors.{number_of};
 
-#[derive(Clone, Copy)]
+#[derive(Clone, Copy, Debug, PartialEq, Eq)]
 pub enum Error {
-    // 1: a size that document 01 sets is not kept
-    SizeLimit,
-    // 2: hit the end of input before it was expected
-    UnexpectedEof,
-    // 3
-    BadUnsignedLeb128,
-    // 4
-    BadSignedLeb128,
-    // 5: the first length word is reserved
-    UnknownReservedLength,
-    // 6: the version is not 2 to 5
-    UnknownVersion,
-    // 7: the width of an address, or of an offset of version 2, is not 1, 2, 4 or 8
-    UnsupportedAddressSize,
-    // 8
-    UnknownUnitType,
-    // 9
-    AbbreviationTagZero,
-    // 10
-    InvalidAbbreviationChildren,
-    // 11
-    AttributeNameZero,
-    // 12
-    AttributeFormZero,
-    // 13: an abbreviation has more attribute specifications than an entry has values
-    TooManyAttributes,
-    // 14
-    DuplicateAbbreviationCode,
-    // 15: the lent rows are full
-    AbbreviationsFull,
-    // 16: an entry's code is not in the table
-    InvalidAbbreviationCode,
-    // 17
-    UnknownForm,
-    // 18: an indirect form named DW_FORM_implicit_const
-    InvalidImplicitConst,
-    // 19
-    OffsetOutOfBounds,
-    // 20
-    NoEntryAtGivenOffset,
-    // 21: the tree has no root, or the level is not 1 to its entry's depth plus 1
-    InvalidTreeLevel,
-    // 22: no unit of .debug_types has the signature
-    MissingTypeUnit,
-    // 23: a lent page is shorter than a page of the sheet
-    PageTooShort,
+    // a size that document 01 sets is not kept
+    SizeLimit = 1,
+    // hit the end of input before it was expected
+    UnexpectedEof = 2,
+    BadUnsignedLeb128 = 3,
+    BadSignedLeb128 = 4,
+    // the first length word is reserved
+    UnknownReservedLength = 5,
+    // the version is not 2 to 5
+    UnknownVersion = 6,
+    // the width of an address, or of an offset of version 2, is not 1, 2, 4 or 8
+    UnsupportedAddressSize = 7,
+    UnknownUnitType = 8,
+    AbbreviationTagZero = 9,
+    InvalidAbbreviationChildren = 10,
+    AttributeNameZero = 11,
+    AttributeFormZero = 12,
+    // an abbreviation has more attribute specifications than an entry has values
+    TooManyAttributes = 13,
+    DuplicateAbbreviationCode = 14,
+    // the lent rows are full
+    AbbreviationsFull = 15,
+    // an entry's code is not in the table
+    InvalidAbbreviationCode = 16,
+    UnknownForm = 17,
+    // an indirect form named DW_FORM_implicit_const
+    InvalidImplicitConst = 18,
+    OffsetOutOfBounds = 19,
+    NoEntryAtGivenOffset = 20,
+    // the tree has no root, or the level is not 1 to its entry's depth plus 1
+    InvalidTreeLevel = 21,
+    // no unit of .debug_types has the signature
+    MissingTypeUnit = 22,
+    // a lent page is shorter than a page of the sheet
+    PageTooShort = 23,
 }
 
 impl Error {
@@ -58,30 +47,6 @@ impl Error {
     pub fn number(self) -> u64
         ensures { result ≡ number_of self }
     {
-        match self {
-            Error::SizeLimit => 1,
-            Error::UnexpectedEof => 2,
-            Error::BadUnsignedLeb128 => 3,
-            Error::BadSignedLeb128 => 4,
-            Error::UnknownReservedLength => 5,
-            Error::UnknownVersion => 6,
-            Error::UnsupportedAddressSize => 7,
-            Error::UnknownUnitType => 8,
-            Error::AbbreviationTagZero => 9,
-            Error::InvalidAbbreviationChildren => 10,
-            Error::AttributeNameZero => 11,
-            Error::AttributeFormZero => 12,
-            Error::TooManyAttributes => 13,
-            Error::DuplicateAbbreviationCode => 14,
-            Error::AbbreviationsFull => 15,
-            Error::InvalidAbbreviationCode => 16,
-            Error::UnknownForm => 17,
-            Error::InvalidImplicitConst => 18,
-            Error::OffsetOutOfBounds => 19,
-            Error::NoEntryAtGivenOffset => 20,
-            Error::InvalidTreeLevel => 21,
-            Error::MissingTypeUnit => 22,
-            Error::PageTooShort => 23,
-        }
+        self as u64
     }
 }

@@ -5,19 +5,17 @@ ghost use Rattle.reader.specs.Answer.{gives, Holds};
 ghost use Rattle.reader.specs.Leb128.{fits_unsigned, uleb_at, sleb_at, past_at};
 ghost use Rattle.reader.specs.Padded.{counted, uleb_counted_at, sleb_counted_at, zero_last, sign_last};
 ghost use Rattle.reader.specs.Parts.{Parted, Sound, RuledUnsigned, whole_of, integer_of};
-ghost use Rattle.reader.specs.Views.{view_word, view_signed_word, view_unsigned, view_signed, view_place};
+ghost use Rattle.reader.specs.Views.{view, view_read};
 
-use super::answer::{Place, Signed, SignedWord, Unsigned, Word};
+use super::answer::{Counted, Read};
 use super::error::Error;
-use super::words::wide;
 
-// A number in parts: what is below its last byte, how many bits that has, the last byte, and the
-// place after it; or the bytes run out before it, or more of them come than the width takes.
+// A number in parts: what is below its last byte, how many bits that has, and the last byte.
 #[derive(Clone, Copy)]
-enum Parts {
-    Last(u64, u64, u64, usize),
-    Short,
-    Long,
+struct Parts {
+    below: u64,
+    shift: u64,
+    last: u64,
 }
 
 // `b` from the bit `shift` on, above `v`.
@@ -33,64 +31,59 @@ fn room(b: u64, left: u64) -> bool
     requires { b < 128 }
     ensures { result ≡ ltb b (2 ^ left) }
 {
-    if left < 7 { b < (1 << left) } else { true }
+    left >= 7 || b < (1 << left)
 }
 
-// The parts of a number of at most `width` bits.
-fn divide(bytes: &[u8], at: usize, width: u64) -> Parts
+// The parts of a number of at most `width` bits; `too_long` where it has more bytes than those.
+fn divide(bytes: &[u8], at: usize, width: u64, too_long: Error) -> Read<Parts>
     requires { (1 ≤ width) × (width ≤ 64) }
-    ensures { Parted bytes.now at width result }
+    ensures { Parted bytes.now at width too_long result }
 {
-    let mut v: u64 = 0;
+    let mut below: u64 = 0;
     let mut shift: u64 = 0;
-    let mut p = at;
-    while p < bytes.len() {
-        let b = wide(bytes[p]);
-        if b < 128 {
-            return Parts::Last(v, shift, b, p + 1);
+    for p in at..bytes.len() {
+        let last = u64::from(bytes[p]);
+        if last < 128 {
+            return Ok((Parts { below, shift, last }, p + 1));
         }
         if width - shift <= 7 {
-            return Parts::Long;
+            return Err(too_long);
         }
-        v = above(v, b - 128, shift);
+        below = above(below, last - 128, shift);
         shift += 7;
-        p += 1;
     }
-    Parts::Short
+    Err(Error::UnexpectedEof)
 }
 
-fn whole(v: u64, shift: u64, b: u64, next: usize, width: u64) -> Word
-    requires { (width ≤ 64) × Sound width v shift b }
-    ensures { view_word result ≡ whole_of width v shift b next }
+fn whole(parts: Parts, next: usize, width: u64) -> Read<u64>
+    requires { (width ≤ 64) × Sound width parts.below parts.shift parts.last }
+    ensures { view_read result ≡ whole_of width parts.below parts.shift parts.last next }
 {
-    if room(b, width - shift) {
-        Word::Got(above(v, b, shift), next)
+    let Parts { below, shift, last } = parts;
+    if room(last, width - shift) {
+        Ok((above(below, last, shift), next))
     } else {
-        Word::Refused(Error::BadUnsignedLeb128)
+        Err(Error::BadUnsignedLeb128)
     }
 }
 
-fn unsigned_of_parts(bytes: &[u8], at: usize, width: u64) -> Word
+fn unsigned_of_parts(bytes: &[u8], at: usize, width: u64) -> Read<u64>
     requires { (1 ≤ width) × (width ≤ 64) }
-    ensures { view_word result ≡ uleb_at bytes.now at width }
+    ensures { view_read result ≡ uleb_at bytes.now at width }
 {
-    match divide(bytes, at, width) {
-        Parts::Last(v, shift, b, next) => whole(v, shift, b, next, width),
-        Parts::Short => Word::Refused(Error::UnexpectedEof),
-        Parts::Long => Word::Refused(Error::BadUnsignedLeb128),
-    }
+    let (parts, next) = divide(bytes, at, width, Error::BadUnsignedLeb128)?;
+    whole(parts, next, width)
 }
 
 // Nearly all numbers have one byte.
-fn unsigned(bytes: &[u8], at: usize, width: u64) -> Word
+fn unsigned(bytes: &[u8], at: usize, width: u64) -> Read<u64>
     requires { (7 ≤ width) × (width ≤ 64) }
-    ensures { view_word result ≡ uleb_at bytes.now at width }
+    ensures { view_read result ≡ uleb_at bytes.now at width }
 {
     if at < bytes.len() {
-        let b = wide(bytes[at]);
+        let b = u64::from(bytes[at]);
         if b < 128 {
-            let next = at + 1;
-            return Word::Got(b, next);
+            return Ok((b, at + 1));
         }
     }
     unsigned_of_parts(bytes, at, width)
@@ -98,31 +91,31 @@ fn unsigned(bytes: &[u8], at: usize, width: u64) -> Word
 
 // The readers of numbers alone, for those who need no more.
 
-pub fn uleb128(bytes: &[u8], at: usize) -> Word
-    ensures { view_word result ≡ uleb_at bytes.now at 64 }
+pub fn uleb128(bytes: &[u8], at: usize) -> Read<u64>
+    ensures { view_read result ≡ uleb_at bytes.now at 64 }
 {
     unsigned(bytes, at, 64)
 }
 
-pub fn uleb128_u16(bytes: &[u8], at: usize) -> Word
-    ensures { view_word result ≡ uleb_at bytes.now at 16 }
+pub fn uleb128_u16(bytes: &[u8], at: usize) -> Read<u64>
+    ensures { view_read result ≡ uleb_at bytes.now at 16 }
 {
     unsigned(bytes, at, 16)
 }
 
-fn positive(x: u64, next: usize) -> SignedWord
+fn positive(x: u64, next: usize) -> Read<i64>
     requires { x < 2 ^ 63 }
-    ensures { view_signed_word result ≡ gives (pos x) next }
+    ensures { view_read result ≡ gives (pos x) next }
 {
-    SignedWord::Got(x as i64, next)
+    Ok((x as i64, next))
 }
 
 // -1 - x
-fn negative(x: u64, next: usize) -> SignedWord
+fn negative(x: u64, next: usize) -> Read<i64>
     requires { x < 2 ^ 63 }
-    ensures { view_signed_word result ≡ gives (negsuc x) next }
+    ensures { view_read result ≡ gives (negsuc x) next }
 {
-    SignedWord::Got(-1 - (x as i64), next)
+    Ok((-1 - (x as i64), next))
 }
 
 // The complement of `v` in `shift` bits.
@@ -133,37 +126,35 @@ fn complement(v: u64, shift: u64) -> u64
     (1 << shift) - 1 - v
 }
 
-fn integer(v: u64, shift: u64, b: u64, next: usize, width: u64) -> SignedWord
-    requires { (width ≤ 64) × Sound width v shift b }
-    ensures { view_signed_word result ≡ integer_of width v shift b next }
+fn integer(parts: Parts, next: usize, width: u64) -> Read<i64>
+    requires { (width ≤ 64) × Sound width parts.below parts.shift parts.last }
+    ensures { view_read result ≡ integer_of width parts.below parts.shift parts.last next }
 {
+    let Parts { below, shift, last } = parts;
     let left = width - shift - 1;
-    if b < 64 {
-        if room(b, left) {
-            return positive(above(v, b, shift), next);
+    if last < 64 {
+        if room(last, left) {
+            return positive(above(below, last, shift), next);
         }
-        return SignedWord::Refused(Error::BadSignedLeb128);
+        return Err(Error::BadSignedLeb128);
     }
-    let x = 127 - b;
+    let x = 127 - last;
     if room(x, left) {
-        return negative(above(complement(v, shift), x, shift), next);
+        return negative(above(complement(below, shift), x, shift), next);
     }
-    SignedWord::Refused(Error::BadSignedLeb128)
+    Err(Error::BadSignedLeb128)
 }
 
-fn signed(bytes: &[u8], at: usize, width: u64) -> SignedWord
+fn signed(bytes: &[u8], at: usize, width: u64) -> Read<i64>
     requires { (1 ≤ width) × (width ≤ 64) }
-    ensures { view_signed_word result ≡ sleb_at bytes.now at width }
+    ensures { view_read result ≡ sleb_at bytes.now at width }
 {
-    match divide(bytes, at, width) {
-        Parts::Last(v, shift, b, next) => integer(v, shift, b, next, width),
-        Parts::Short => SignedWord::Refused(Error::UnexpectedEof),
-        Parts::Long => SignedWord::Refused(Error::BadSignedLeb128),
-    }
+    let (parts, next) = divide(bytes, at, width, Error::BadSignedLeb128)?;
+    integer(parts, next, width)
 }
 
-pub fn sleb128(bytes: &[u8], at: usize) -> SignedWord
-    ensures { view_signed_word result ≡ sleb_at bytes.now at 64 }
+pub fn sleb128(bytes: &[u8], at: usize) -> Read<i64>
+    ensures { view_read result ≡ sleb_at bytes.now at 64 }
 {
     signed(bytes, at, 64)
 }
@@ -188,67 +179,75 @@ fn sign_last(bytes: &[u8], at: usize, next: usize) -> bool
     if next - at < 2 {
         return false;
     }
-    let before = wide(bytes[next - 2]);
+    let before = u64::from(bytes[next - 2]);
     if before < 0xc0 {
         return bytes[next - 1] == 0;
     }
     bytes[next - 1] == 0x7f
 }
 
-fn count_bytes(bytes: &[u8], at: usize, read: Word) -> Unsigned
-    requires { Holds (RuledUnsigned bytes.now at) (view_word read) }
-    ensures { view_unsigned result ≡ counted fits_unsigned at (view_word read) }
+fn count_bytes(bytes: &[u8], at: usize, read: Read<u64>) -> Read<Counted<u64>>
+    requires { Holds (RuledUnsigned bytes.now at) (view_read read) }
+    ensures { view_read result ≡ counted fits_unsigned at (view_read read) }
 {
-    match read {
-        Word::Got(value, next) => {
-            let padded = zero_last(bytes, at, next);
-            Unsigned::Got(value, next, next - at, padded)
-        }
-        Word::Refused(e) => Unsigned::Refused(e),
-    }
+    let (number, next) = read?;
+    let padded = zero_last(bytes, at, next);
+    let count = next - at;
+    Ok((
+        Counted {
+            number,
+            count,
+            padded,
+        },
+        next,
+    ))
 }
 
-pub fn read_uleb128(bytes: &[u8], at: usize) -> Unsigned
-    ensures { view_unsigned result ≡ uleb_counted_at bytes.now at 64 }
+#[tactic(auto, using(crate::proofs::PaddedLaws::unsigned_rule), unfolding(crate::specs::Padded::uleb_counted_at))]
+pub fn read_uleb128(bytes: &[u8], at: usize) -> Read<Counted<u64>>
+    ensures { view_read result ≡ uleb_counted_at bytes.now at 64 }
 {
     count_bytes(bytes, at, uleb128(bytes, at))
 }
 
-pub fn read_uleb128_u16(bytes: &[u8], at: usize) -> Unsigned
-    ensures { view_unsigned result ≡ uleb_counted_at bytes.now at 16 }
+#[tactic(auto, using(crate::proofs::PaddedLaws::unsigned_rule), unfolding(crate::specs::Padded::uleb_counted_at))]
+pub fn read_uleb128_u16(bytes: &[u8], at: usize) -> Read<Counted<u64>>
+    ensures { view_read result ≡ uleb_counted_at bytes.now at 16 }
 {
     count_bytes(bytes, at, uleb128_u16(bytes, at))
 }
 
-pub fn read_sleb128(bytes: &[u8], at: usize) -> Signed
-    ensures { view_signed result ≡ sleb_counted_at bytes.now at 64 }
+#[tactic(auto, using(crate::proofs::PaddedLaws::signed_rule), unfolding(crate::specs::Padded::sleb_counted_at))]
+pub fn read_sleb128(bytes: &[u8], at: usize) -> Read<Counted<i64>>
+    ensures { view_read result ≡ sleb_counted_at bytes.now at 64 }
 {
-    match sleb128(bytes, at) {
-        SignedWord::Got(value, next) => {
-            let padded = sign_last(bytes, at, next);
-            Signed::Got(value, next, next - at, padded)
-        }
-        SignedWord::Refused(e) => Signed::Refused(e),
-    }
+    let (number, next) = sleb128(bytes, at)?;
+    let padded = sign_last(bytes, at, next);
+    let count = next - at;
+    Ok((
+        Counted {
+            number,
+            count,
+            padded,
+        },
+        next,
+    ))
 }
 
 // Past the first byte below `bound`.
-pub(crate) fn past(bytes: &[u8], at: usize, bound: u8) -> Place
-    ensures { view_place result ≡ past_at bytes.now at bound }
+pub(crate) fn past(bytes: &[u8], at: usize, bound: u8) -> Result<usize, Error>
+    ensures { view result ≡ past_at bytes.now at bound }
 {
-    let mut p = at;
-    while p < bytes.len() {
+    for p in at..bytes.len() {
         if bytes[p] < bound {
-            let next = p + 1;
-            return Place::At(next);
+            return Ok(p + 1);
         }
-        p += 1;
     }
-    Place::Refused(Error::UnexpectedEof)
+    Err(Error::UnexpectedEof)
 }
 
-pub fn skip_leb128(bytes: &[u8], at: usize) -> Place
-    ensures { view_place result ≡ past_at bytes.now at 128 }
+pub fn skip_leb128(bytes: &[u8], at: usize) -> Result<usize, Error>
+    ensures { view result ≡ past_at bytes.now at 128 }
 {
     past(bytes, at, 128)
 }

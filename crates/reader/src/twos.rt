@@ -3,22 +3,16 @@
 ghost use Rattle.std.specs.Prelude.{◌≡◌};
 ghost use Rattle.reader.specs.Twos.{twos, word};
 
+#[tactic(auto, using(crate::proofs::Signs::word_cast))]
 pub fn to_word(z: i64) -> u64
     ensures { result ≡ word 64 z }
 {
-    if 0 <= z {
-        z as u64
-    } else {
-        0xffff_ffff_ffff_ffff - ((-1 - z) as u64)
-    }
+    z.cast_unsigned()
 }
 
+#[tactic(auto, using(crate::proofs::Signs::twos_cast))]
 pub fn from_word(w: u64) -> i64
     ensures { result ≡ twos 64 w }
 {
-    if w < 0x8000_0000_0000_0000 {
-        w as i64
-    } else {
-        -1 - ((0xffff_ffff_ffff_ffff - w) as i64)
-    }
+    w.cast_signed()
 }

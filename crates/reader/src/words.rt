@@ -2,28 +2,15 @@
 // The order is matched once, outside of what puts a word together, so that each order compiles to
 // loads and shifts without a branch.
 
-ghost use Rattle.std.specs.Prelude.{◌≡◌, ◌+◌, ◌-◌, ◌*◌, ◌^◌, ◌≤◌, ◌<◌, length};
+ghost use Rattle.std.specs.Prelude.{◌≡◌, ◌+◌, ◌*◌, ◌^◌, ◌≤◌, ◌<◌, length};
 ghost use Rattle.reader.specs.Parts.{Joins, joined};
-ghost use Rattle.reader.specs.Views.{view_word, view_wide_word};
+ghost use Rattle.reader.specs.Views.{view_read};
 ghost use Rattle.reader.specs.Words.{spelled, word_at, halves_at};
 ghost use Rattle.reader.specs.declared.endianity.RunTimeEndian.TheVariants.{Little};
 
-use super::answer::{WideWord, Word};
+use super::answer::{Halves, Read};
 use super::endianity::RunTimeEndian;
 use super::error::Error;
-
-// How many of `len` bytes are left from `at` on.
-pub(crate) fn left(len: usize, at: usize) -> usize
-    ensures { result ≡ len - at }
-{
-    if at < len { len - at } else { 0 }
-}
-
-pub(crate) fn wide(x: u8) -> u64
-    ensures { (result ≡ x) × (result < 256) }
-{
-    x as u64
-}
 
 // The word of two parts, of `a` and `b` bytes, that follow each other.
 fn join(first: u64, second: u64, a: u64, b: u64, endian: RunTimeEndian) -> u64
@@ -36,129 +23,72 @@ fn join(first: u64, second: u64, a: u64, b: u64, endian: RunTimeEndian) -> u64
     }
 }
 
-fn word1(bytes: &[u8], at: usize, endian: RunTimeEndian) -> u64
-    requires { at + 1 ≤ length bytes.now }
-    ensures { result ≡ spelled bytes.now at 1 endian }
+// The word of `N` bytes that are there.
+fn spelled<const N: usize>(bytes: &[u8], at: usize, endian: RunTimeEndian) -> u64
+    requires width { (1 ≤ N) × (N ≤ 8) }
+    requires there { at + N ≤ length bytes.now }
+    ensures { result ≡ spelled bytes.now at N endian }
 {
-    wide(bytes[at])
+    let mut word = u64::from(bytes[at]);
+    for i in 1..N {
+        word = join(word, u64::from(bytes[at + i]), i as u64, 1, endian);
+    }
+    word
 }
 
-fn word2(bytes: &[u8], at: usize, endian: RunTimeEndian) -> u64
-    requires { at + 2 ≤ length bytes.now }
-    ensures { result ≡ spelled bytes.now at 2 endian }
+fn read_word<const N: usize>(bytes: &[u8], at: usize, endian: RunTimeEndian) -> Read<u64>
+    requires { (1 ≤ N) × (N ≤ 8) }
+    ensures { view_read result ≡ word_at bytes.now at N endian }
 {
-    let first = word1(bytes, at, endian);
-    let second = word1(bytes, at + 1, endian);
-    join(first, second, 1, 1, endian)
+    if bytes.len().saturating_sub(at) < N {
+        return Err(Error::UnexpectedEof);
+    }
+    let word = match endian {
+        RunTimeEndian::Little => spelled::<N>(bytes, at, RunTimeEndian::Little),
+        RunTimeEndian::Big => spelled::<N>(bytes, at, RunTimeEndian::Big),
+    };
+    Ok((word, at + N))
 }
 
-fn word3(bytes: &[u8], at: usize, endian: RunTimeEndian) -> u64
-    requires { at + 3 ≤ length bytes.now }
-    ensures { result ≡ spelled bytes.now at 3 endian }
+pub fn read_u8(bytes: &[u8], at: usize) -> Read<u64>
+    ensures { view_read result ≡ word_at bytes.now at 1 Little }
 {
-    let first = word1(bytes, at, endian);
-    let second = word2(bytes, at + 1, endian);
-    join(first, second, 1, 2, endian)
+    read_word::<1>(bytes, at, RunTimeEndian::Little)
 }
 
-fn word4(bytes: &[u8], at: usize, endian: RunTimeEndian) -> u64
-    requires { at + 4 ≤ length bytes.now }
-    ensures { result ≡ spelled bytes.now at 4 endian }
+pub fn read_u16(bytes: &[u8], at: usize, endian: RunTimeEndian) -> Read<u64>
+    ensures { view_read result ≡ word_at bytes.now at 2 endian }
 {
-    let first = word2(bytes, at, endian);
-    let second = word2(bytes, at + 2, endian);
-    join(first, second, 2, 2, endian)
+    read_word::<2>(bytes, at, endian)
 }
 
-fn word8(bytes: &[u8], at: usize, endian: RunTimeEndian) -> u64
-    requires { at + 8 ≤ length bytes.now }
-    ensures { result ≡ spelled bytes.now at 8 endian }
+pub fn read_u24(bytes: &[u8], at: usize, endian: RunTimeEndian) -> Read<u64>
+    ensures { view_read result ≡ word_at bytes.now at 3 endian }
 {
-    let first = word4(bytes, at, endian);
-    let second = word4(bytes, at + 4, endian);
-    join(first, second, 4, 4, endian)
+    read_word::<3>(bytes, at, endian)
 }
 
-pub fn read_u8(bytes: &[u8], at: usize) -> Word
-    ensures { view_word result ≡ word_at bytes.now at 1 Little }
+pub fn read_u32(bytes: &[u8], at: usize, endian: RunTimeEndian) -> Read<u64>
+    ensures { view_read result ≡ word_at bytes.now at 4 endian }
 {
-    if left(bytes.len(), at) < 1 {
-        return Word::Refused(Error::UnexpectedEof);
-    }
-    let value = wide(bytes[at]);
-    Word::Got(value, at + 1)
+    read_word::<4>(bytes, at, endian)
 }
 
-pub fn read_u16(bytes: &[u8], at: usize, endian: RunTimeEndian) -> Word
-    ensures { view_word result ≡ word_at bytes.now at 2 endian }
+pub fn read_u64(bytes: &[u8], at: usize, endian: RunTimeEndian) -> Read<u64>
+    ensures { view_read result ≡ word_at bytes.now at 8 endian }
 {
-    if left(bytes.len(), at) < 2 {
-        return Word::Refused(Error::UnexpectedEof);
-    }
-    let next = at + 2;
-    match endian {
-        RunTimeEndian::Little => Word::Got(word2(bytes, at, RunTimeEndian::Little), next),
-        RunTimeEndian::Big => Word::Got(word2(bytes, at, RunTimeEndian::Big), next),
-    }
+    read_word::<8>(bytes, at, endian)
 }
 
-pub fn read_u24(bytes: &[u8], at: usize, endian: RunTimeEndian) -> Word
-    ensures { view_word result ≡ word_at bytes.now at 3 endian }
+#[tactic(auto, using(crate::proofs::WordLaws::halves_read))]
+pub fn read_u128(bytes: &[u8], at: usize, endian: RunTimeEndian) -> Read<Halves>
+    ensures { view_read result ≡ halves_at bytes.now at endian }
 {
-    if left(bytes.len(), at) < 3 {
-        return Word::Refused(Error::UnexpectedEof);
-    }
-    let next = at + 3;
-    match endian {
-        RunTimeEndian::Little => Word::Got(word3(bytes, at, RunTimeEndian::Little), next),
-        RunTimeEndian::Big => Word::Got(word3(bytes, at, RunTimeEndian::Big), next),
-    }
-}
-
-pub fn read_u32(bytes: &[u8], at: usize, endian: RunTimeEndian) -> Word
-    ensures { view_word result ≡ word_at bytes.now at 4 endian }
-{
-    if left(bytes.len(), at) < 4 {
-        return Word::Refused(Error::UnexpectedEof);
-    }
-    let next = at + 4;
-    match endian {
-        RunTimeEndian::Little => Word::Got(word4(bytes, at, RunTimeEndian::Little), next),
-        RunTimeEndian::Big => Word::Got(word4(bytes, at, RunTimeEndian::Big), next),
-    }
-}
-
-pub fn read_u64(bytes: &[u8], at: usize, endian: RunTimeEndian) -> Word
-    ensures { view_word result ≡ word_at bytes.now at 8 endian }
-{
-    if left(bytes.len(), at) < 8 {
-        return Word::Refused(Error::UnexpectedEof);
-    }
-    let next = at + 8;
-    match endian {
-        RunTimeEndian::Little => Word::Got(word8(bytes, at, RunTimeEndian::Little), next),
-        RunTimeEndian::Big => Word::Got(word8(bytes, at, RunTimeEndian::Big), next),
-    }
-}
-
-pub fn read_u128(bytes: &[u8], at: usize, endian: RunTimeEndian) -> WideWord
-    ensures { view_wide_word result ≡ halves_at bytes.now at endian }
-{
-    if left(bytes.len(), at) < 16 {
-        return WideWord::Refused(Error::UnexpectedEof);
-    }
-    let middle = at + 8;
-    let next = at + 16;
-    match endian {
-        RunTimeEndian::Little => {
-            let low = word8(bytes, at, RunTimeEndian::Little);
-            let high = word8(bytes, middle, RunTimeEndian::Little);
-            WideWord::Got(low, high, next)
-        }
-        RunTimeEndian::Big => {
-            let first = word8(bytes, at, RunTimeEndian::Big);
-            let second = word8(bytes, middle, RunTimeEndian::Big);
-            WideWord::Got(second, first, next)
-        }
-    }
+    let (first, middle) = read_u64(bytes, at, endian)?;
+    let (second, next) = read_u64(bytes, middle, endian)?;
+    let (low, high) = match endian {
+        RunTimeEndian::Little => (first, second),
+        RunTimeEndian::Big => (second, first),
+    };
+    Ok((Halves { low, high }, next))
 }

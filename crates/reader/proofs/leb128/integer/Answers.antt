@@ -21,11 +21,11 @@ positive-requires c = rw c.above.ensures (above_fits 63 _ _ _ _ c.requires.1.und
 
 pub returns-then-room : goal.returns-then-room
 unfolding integer_of
-returns-then-room c = rw (c.positive.ensures, c.above.ensures, twos_low 7 _ c.if-b-lt64.true, ← c.room.ensures, c.if-room.true, last_low _ _ _ c.requires.1.under c.if-b-lt64.true)
+returns-then-room c = rw (c.positive.ensures, c.above.ensures, twos_low 7 _ c.if-last-lt64.true, ← c.room.ensures, c.if-room.true, last_low _ _ _ c.requires.1.under c.if-last-lt64.true)
 
-pub returns-then-b-lt64 : goal.returns-then-b-lt64
+pub returns-then-last-lt64 : goal.returns-then-last-lt64
 unfolding integer_of
-returns-then-b-lt64 c = rw (twos_low 7 _ c.if-b-lt64.true, ← c.room.ensures, c.if-room.false)
+returns-then-last-lt64 c = rw (twos_low 7 _ c.if-last-lt64.true, ← c.room.ensures, c.if-room.false)
 
 pub room-requires-2 : goal.room-requires-2
 unfolding integer_of
@@ -47,8 +47,8 @@ pub returns-then-room-2 : goal.returns-then-room-2
 unfolding integer_of
 returns-then-room-2 c =
     let o = c.requires.1 in
-    rw (c.negative.ensures, c.above-then-room-2.ensures, c.complement.ensures, twos_high 7 _ c.if-b-lt64.false o.seven, ← c.room-2.ensures, c.if-room-2.true, last_high _ _ _ o.under c.if-b-lt64.false o.seven)
+    rw (c.negative.ensures, c.above-then-room-2.ensures, c.complement.ensures, twos_high 7 _ c.if-last-lt64.false o.seven, ← c.room-2.ensures, c.if-room-2.true, last_high _ _ _ o.under c.if-last-lt64.false o.seven)
 
 pub returns : goal.returns
 unfolding integer_of
-returns c = rw (twos_high 7 _ c.if-b-lt64.false c.requires.1.seven, ← c.room-2.ensures, c.if-room-2.false)
+returns c = rw (twos_high 7 _ c.if-last-lt64.false c.requires.1.seven, ← c.room-2.ensures, c.if-room-2.false)

@@ -12,7 +12,7 @@ returns-then-before-lt192 c =
     let a = c.args in
     let b : ℕ = get_or a.bytes.now (a.next - 2) 0 in
     let h : 128 ≤ b = c.requires.bound (omega arith) in
-    let l : b % 128 < 64 = omega (arith, c.wide-before.ensures.0) in
+    let l : b % 128 < 64 = omega (arith, c.requires.at_lt_next) in
     rw (lt-ltb 1 (a.next - a.at) (omega arith), lt-ltb (b % 128) 64 l)
 
 pub returns : goal.returns
@@ -20,5 +20,5 @@ returns c =
     let a = c.args in
     let b : ℕ = get_or a.bytes.now (a.next - 2) 0 in
     let h : 128 ≤ b = c.requires.bound (omega arith) in
-    let l : 64 ≤ b % 128 = omega (arith, c.wide-before.ensures.0, c.wide-before.ensures.1) in
+    let l : 64 ≤ b % 128 = omega (arith, c.requires.at_lt_next) in
     rw (lt-ltb 1 (a.next - a.at) (omega arith), le-ltb (b % 128) 64 l)

@@ -1,9 +1,0 @@
-use Rattle.reader.proofs.WordLaws.{word_joins, word_joined}
-use native.Mathlib.Omega.{arith}
-use Rattle.reader.proofs.words.word8.Goals as goal
-
-pub join-requires : goal.join-requires
-join-requires c = word_joins _ _ 4 4 c.args.endian c.requires (omega arith, omega arith) (omega arith) c.word4-first.ensures c.word4-second.ensures
-
-pub returns : goal.returns
-returns c = word_joined _ _ 4 4 _ c.requires c.join.ensures c.word4-first.ensures c.word4-second.ensures
