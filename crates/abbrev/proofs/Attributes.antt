@@ -8,10 +8,8 @@ use lib.ListN.{length, length-append}
 use Rattle.reader.specs.Answer.{Answer, got, refused, and_then, Read, gives}
 use Rattle.abbrev.specs.Rows.{spec_words}
 use Rattle.abbrev.specs.Steps.{After, Took}
-use Rattle.abbrev.specs.Table.{Specification, Pair, entry_limit, with_specification, pair_at, constant_at, specifications_at}
-
-abbrev pair_of : ℕ → ℕ → Pair
-pair_of name form = record { name = name; form = form }
+use Rattle.abbrev.specs.Table.{Specification, entry_limit, with_specification, pair_at, constant_at, specifications_at}
+use Rattle.abbrev.specs.declared.table.Pair.{Pair}
 
 -- the specifications by their first pair
 module _ (s : List ℕ) (over p : ℕ) where
@@ -20,24 +18,29 @@ module _ (s : List ℕ) (over p : ℕ) where
   unread zero k e = rw e
   unread (suc m) k e = rw e
 
-  module _ (name form q : ℕ) (e : pair_at s p ≡ gives (pair_of name form) q) where
-    pub closed : (m : ℕ) → form ≡ 0 → specifications_at s over m p ≡ gives [] q
+  module _ (x : Pair) (q : ℕ) (e : pair_at s p ≡ gives x q) where
+    closed : (m : ℕ) → x.form ≡ 0 → specifications_at s over m p ≡ gives [] q
     unfolding specifications_at
-    closed zero z = rw (e, eq-eqb form 0 z)
-    closed (suc m) z = rw (e, eq-eqb form 0 z)
+    closed zero z = rw (e, eq-eqb x.form 0 z)
+    closed (suc m) z = rw (e, eq-eqb x.form 0 z)
 
-    pub full : (m : ℕ) → m ≡ 0 → (form ≡ 0 → ⊥) → specifications_at s over m p ≡ refused over
-    unfolding specifications_at
-    full m z f = rw (z, e, ne_eqb form 0 f)
-
-    module _ (m k : ℕ) (z : m ≡ suc k) (f : form ≡ 0 → ⊥) where
-      pub valueless : (b : ℕ) → constant_at s q form ≡ refused b → specifications_at s over m p ≡ refused b
+    module _ (f : x.form ≡ 0 → ⊥) where
+      pub full : (m : ℕ) → m ≡ 0 → specifications_at s over m p ≡ refused over
       unfolding specifications_at
-      valueless b g = rw (z, e, ne_eqb form 0 f, g)
+      full m z = rw (z, e, ne_eqb x.form 0 f)
 
-      pub one : (v r : ℕ) → constant_at s q form ≡ gives v r → specifications_at s over m p ≡ with_specification (record { name = name; form = form; constant = v }) (specifications_at s over k r)
-      unfolding specifications_at
-      one v r g = rw (z, e, ne_eqb form 0 f, g)
+      module _ (most n : ℕ) (h : n < most) where
+        more : most - n ≡ suc (most - (n + 1))
+        more = omega arith
+
+        pub valueless : (b : ℕ) → constant_at s q x.form ≡ refused b → specifications_at s over (most - n) p ≡ refused b
+        unfolding specifications_at
+        valueless b g = rw (more, e, ne_eqb x.form 0 f, g)
+
+        one : (v r : ℕ) → constant_at s q x.form ≡ gives v r
+            → specifications_at s over (most - n) p ≡ with_specification (record { name = x.name; form = x.form; constant = v }) (specifications_at s over (most - (n + 1)) r)
+        unfolding specifications_at
+        one v r g = rw (more, e, ne_eqb x.form 0 f, g)
 
 -- xs, and what the rest is
 abbrev before : List Specification → Answer (Read (List Specification)) → Answer (Read (List Specification))
@@ -80,20 +83,23 @@ module _ {s : List ℕ} {at first : ℕ} {l : List ℕ} {n p : ℕ} {l' : List �
   pub stopped : (k : ℕ) → specifications_at s entry_limit.over (entry_limit.most - n) p ≡ refused k → specifications_at s entry_limit.over entry_limit.most at ≡ refused k
   stopped k e = rw (t.is, e)
 
-  pub ended : (q : ℕ) → specifications_at s entry_limit.over (entry_limit.most - n) p ≡ gives [] q → Took s at first l l' n q
-  ended q e = record { xs = t.xs; len = t.len; is = rw (t.is, e, append-nil); kept = t.kept }
+  pub ended : {x : Pair} {q : ℕ} → pair_at s p ≡ gives x q → x.form ≡ 0 → Took s at first l l' n q
+  ended {x} {q} e z = record { xs = t.xs; len = t.len; is = rw (t.is, closed s entry_limit.over p x q e (entry_limit.most - n) z, append-nil); kept = t.kept }
 
-  pub further : (x : Specification) (q : ℕ) (m : List ℕ) → n < entry_limit.most
-      → specifications_at s entry_limit.over (entry_limit.most - n) p ≡ with_specification x (specifications_at s entry_limit.over (entry_limit.most - (n + 1)) q)
-      → length m ≡ length l' → After 3 (first + n) l' (x.name ∷ x.form ∷ x.constant ∷ []) (first + n + 1) m
-      → Taken s at first l (n + 1) q m
-  further x q m h e w a =
+  pub further : {x : Pair} {q c r : ℕ} {m : List ℕ} → n < entry_limit.most → pair_at s p ≡ gives x q → (x.form ≡ 0 → ⊥) → constant_at s q x.form ≡ gives c r
+      → length m ≡ length l' → After 3 (first + n) l' (x.name ∷ x.form ∷ c ∷ []) (first + n + 1) m
+      → Taken s at first l (n + 1) r m
+  further {x} {q} {c} {r} h e z g w a =
       let f : first + (n + 1) ≡ first + n + 1 = omega arith in
+      let y : Specification = record { name = x.name; form = x.form; constant = c } in
       record {
-        xs = t.xs ++ (x ∷ []);
+        xs = t.xs ++ (y ∷ []);
         len = rw (length-append, t.len);
         most = omega arith;
         same = w ∙ t.same;
-        is = rw (t.is, e) (before_more t.xs x (specifications_at s entry_limit.over (entry_limit.most - (n + 1)) q));
+        is = rw (t.is, one s entry_limit.over p x q e z entry_limit.most n h c r g) (before_more t.xs y (specifications_at s entry_limit.over (entry_limit.most - (n + 1)) r));
         kept = λ r. rw (f, a (omega (arith, t.same)), t.kept (omega arith), append_assoc, words_append);
       }
+
+-- a refusal of one specification
+pub ruleset refused_steps = (unread, full, valueless, stopped)

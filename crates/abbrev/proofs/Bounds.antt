@@ -19,7 +19,9 @@ use Rattle.reader.proofs.Answers.{holds_then, cond_by}
 use Rattle.reader.proofs.WordLaws.{word_in}
 use Rattle.abbrev.specs.Lookup.{all_fair}
 use Rattle.abbrev.specs.Rows.{Row, rows_from}
-use Rattle.abbrev.specs.Table.{Specification, Declaration, Limit, Pair, Head, judged, pair_at, constant_at, with_specification, specifications_at, tag_at, children_at, tagged_at, head_at, declared, declaration_at, with_declaration, has, declarations_at, abbreviations_at}
+use Rattle.abbrev.specs.Table.{Specification, Declaration, Limit, judged, pair_at, constant_at, with_specification, specifications_at, tag_at, children_at, tagged_at, head_at, declared, declaration_at, with_declaration, has, declarations_at, abbreviations_at}
+use Rattle.abbrev.specs.declared.table.Pair.{Pair}
+use Rattle.abbrev.specs.declared.table.Head.{Head}
 use Rattle.abbrev.proofs.Columns.{has_append}
 
 -- membership
@@ -189,7 +191,7 @@ not_before : (c : ℕ) (u v : List ℕ) → has c (u ++ v) ≡ false → (has c 
 not_before c u v e = by (has c u) (sym (has_append c u v) ∙ e)
   where
     by : (b : Bool) → cond b true (has c v) ≡ false → (b ≡ false) × (has c v ≡ false)
-    by true e = let z : ◌≡◌ {A = ℕ} 0 1 = cc in absurd (omega arith)
+    by true e = absurd cc
     by false e = (refl, e)
 
 unseen : (most : ℕ) (seen : List ℕ) (b : Declaration) (ds : List Declaration) → Good most seen ds → In b ds → has b.code seen ≡ false
@@ -201,7 +203,7 @@ apart : (most : ℕ) (seen : List ℕ) (x b : Declaration) (ds : List Declaratio
 apart most seen x b ds g i e =
     let f = (not_before b.code seen (x.code ∷ []) (unseen most (seen ++ (x.code ∷ [])) b ds g i)).1 in
     let t : true ≡ false = rw (eq-eqb x.code b.code e) at f in
-    let z : ◌≡◌ {A = ℕ} 0 1 = cc in omega arith
+    cc
 
 pub in_rows : (first : ℕ) (t : List Declaration) (r : Row) → In r (rows_from first t) → In r.declaration t
 in_rows first [] r x' = elim x' [ ]

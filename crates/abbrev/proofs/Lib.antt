@@ -1,5 +1,4 @@
 -- Laws that several proofs cite; callers of `abbrev` use those of Lookups and Bounds.
-pub mod Stores
 pub mod Columns
 pub mod Attributes
 pub mod Tables

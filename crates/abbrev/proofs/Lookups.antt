@@ -8,18 +8,21 @@ use mathlib.Core.Logic.{inl, inr, ⊎_elim}
 use Prim.Native.Nat.{ℕ, zero, suc, ◌+◌, ◌-◌, ◌*◌, ◌/◌, ◌≤◌, ◌<◌}
 use native.Mathlib.Omega.{arith}
 use native.Mathlib.Nat.{suc-add}
-use borrow.Author.Tests.{ne_eqb, eqb-true, eqb-false, lt-ltb, le-ltb, le-leb, leb-true}
-use lib.Dec.{eqb, ltb, leb}
+use borrow.Author.Tests.{ne_eqb, eqb-true, eqb-false, lt-ltb, le-ltb}
+use lib.Dec.{eqb, ltb}
 use lib.ListN.{length, take, drop, get_or, replicate, length-append}
-use lib.Seq.{get_or-take, get_or-drop, take_at, drop_at}
+use lib.Seq.{take_at, drop_at}
 use Rattle.reader.specs.Answer.{Answer, got, refused, and_then, Holds}
 use Rattle.reader.proofs.Answers.{cond_by}
-use Rattle.abbrev.specs.Lookup.{column, index_of, spec_at, specs_from, fair, all_fair, specification_at, specification_in, Found, row_at, specs_kept, keeps_sizes, judged_row, row_found, leading, lookup, declaration_of, declared_in}
+use Rattle.abbrev.specs.Lookup.{column, index_of, spec_at, specs_from, fair, all_fair, specification_at, specification_in, Found, row_at, keeps_sizes, judged_row, row_found, leading, lookup, declaration_of, declared_in}
 use Rattle.abbrev.specs.Rows.{spec_words, all_specs, Row, row_words, rows_words, rows_from, table_rows, Laid, Left}
 use Rattle.abbrev.specs.Table.{Specification, Declaration, Limit, abbreviations_at}
 use Rattle.abbrev.proofs.Attributes.{words_append}
 use Rattle.abbrev.proofs.Bounds.{In, Proper, Sound, in_rows, sound}
-use Rattle.abbrev.proofs.Columns.{drop_take, length_column, leading_index}
+use Rattle.std.proofs.lemmas.Bool.Decides.{nat_tests}
+use Rattle.std.proofs.lemmas.Grind.{common_steps}
+use Rattle.std.proofs.lemmas.List.{drop-take, drop-replicate}
+use Rattle.abbrev.proofs.Columns.{length_column, leading_index}
 use Rattle.abbrev.proofs.Laying.{spec_words_length}
 
 in_perm : {A : Type 0} (a : A) {l m : List A} → Permᴰ l m → In a l → In a m
@@ -57,11 +60,7 @@ specs_from_lem [] l e = refl
 specs_from_lem (x ∷ xs) l e =
     let f : suc (length xs) * 3 ≡ 3 + length xs * 3 = omega arith in
     let g : take (3 + length xs * 3) l ≡ spec_words (x ∷ xs) = rw f at e in
-    let a : get_or l 0 0 ≡ x.name = sym (get_or-take (3 + length xs * 3) l 0 0 (omega arith)) ∙ ap (λ k. get_or k 0 0) g in
-    let b : get_or l 1 0 ≡ x.form = sym (get_or-take (3 + length xs * 3) l 1 0 (omega arith)) ∙ ap (λ k. get_or k 1 0) g in
-    let c : get_or l 2 0 ≡ x.constant = sym (get_or-take (3 + length xs * 3) l 2 0 (omega arith)) ∙ ap (λ k. get_or k 2 0) g in
-    let r : take (length xs * 3) (drop 3 l) ≡ spec_words xs = sym (drop_take 3 (length xs * 3) l) ∙ ap (drop 3) g in
-    rw (a, b, c, specs_from_lem xs (drop 3 l) r)
+    grind (arith, common_steps, drop-take 3 (length xs * 3) l, specs_from_lem xs (drop 3 l))
 
 -- ---- the codes of rows, then zeros
 
@@ -73,23 +72,18 @@ codes_rows : (rs : List Row) (m : ℕ) (v : List ℕ) → column (length rs + m)
 codes_rows [] m v = let e : 0 + m ≡ m = omega arith in rw e
 codes_rows (r ∷ rs) m v = rw (suc-add (length rs) m, codes_rows rs m v)
 
-zeros_drop : (m k : ℕ) → drop m (replicate {A = ℕ} k 0) ≡ replicate (k - m) 0
-zeros_drop zero k = let e : k - 0 ≡ k = omega arith in rw e
-zeros_drop (suc m) zero = let e : 0 - suc m ≡ 0 = omega arith in rw e
-zeros_drop (suc m) (suc k) = let e : suc k - suc m ≡ k - m = omega arith in rw e (zeros_drop m k)
-
 zeros_head : (k : ℕ) → get_or (replicate {A = ℕ} k 0) 0 0 ≡ 0
 zeros_head zero = refl
 zeros_head (suc k) = refl
 
 no_code : (c m k : ℕ) → (c ≡ 0 → ⊥) → index_of c (column m (replicate k 0)) ≡ m
 no_code c zero k h = refl
-no_code c (suc m) k h = rw (zeros_head k, ne_eqb 0 c (λ e. h (sym e)), zeros_drop 5 k) (ap suc (no_code c m (k - 5) h))
+no_code c (suc m) k h = rw (zeros_head k, ne_eqb 0 c (λ e. h (sym e)), drop-replicate {X = ℕ} 5 k 0) (ap suc (no_code c m (k - 5) h))
 
 -- no row has the code
 missed : (c : ℕ) (rs : List Row) (w : List ℕ) → ((r : Row) → In r rs → r.declaration.code ≡ c → ⊥) → index_of c w ≡ length w → index_of c (codes rs ++ w) ≡ length (codes rs ++ w)
 missed c [] w h e = e
-missed c (r ∷ rs) w h e = rw (ne_eqb r.declaration.code c (h r (inl refl))) (ap suc (missed c rs w (λ y i. h y (inr i)) e))
+missed c (r ∷ rs) w h e = grind (arith, nat_tests, h r (inl refl), missed c rs w (λ y i. h y (inr i)) e)
 
 -- what a row says
 abbrev pub found_row : Row → Found
@@ -164,16 +158,8 @@ module _ {m k : ℕ} {rows specs : List ℕ} {t : List Declaration} (L : Laid m 
   judged_row_lem : (most : ℕ) (r : Row) → Proper most r.declaration → Held specs r → judged_row most specs (found_row r) ≡ got (some (found_row r))
   unfolding judged_row
   judged_row_lem most r p h =
-      let d = r.declaration in
-      rw (
-        lt-ltb 0 d.tag p.tag_some,
-        le-leb d.tag 65535 p.tag_small,
-        le-leb d.children 1 p.children_bit,
-        le-leb (length d.specifications) most p.few,
-        le-leb (r.first + length d.specifications) (length specs / 3) h.room,
-        specs_from_lem d.specifications (drop (r.first * 3) specs) h.words,
-        p.smalls,
-      )
+      let e = specs_from_lem r.declaration.specifications (drop (r.first * 3) specs) h.words in
+      grind (arith, nat_tests, e)
 
   -- what is in the table is found, in the row that holds it
   pub lookup_row : (most : ℕ) → Sound most t → (r : Row) → In r (rows_from 0 t) → lookup most rows specs r.declaration.code ≡ got (some (found_row r))
@@ -240,13 +226,9 @@ lookup_same {rows = rows} {rows' = rows'} {specs = specs} {t = t} most S L L' c 
         ap (λ (n : ℕ). lookup most rows specs n) (sym p) ∙ lookup_row L most S r i ∙ sym (lookup_row L' most S r i) ∙ ap (λ (n : ℕ). lookup most rows' specs n) p
     by (missing h q) = lookup_none L most c h ∙ sym (lookup_none L' most c h)
 
-perm_same : (l : List Row) → Permᴰ l l
-perm_same [] = Permᴰ.nil
-perm_same (r ∷ l) = Permᴰ.cons refl (perm_same l)
-
 -- the table in file order is one that the table call may leave
 in_order : {m k : ℕ} {rows specs : List ℕ} {t : List Declaration} → Laid m k rows specs t → Laid m k (table_rows m t) specs t
-in_order {t = t} L = record { row_choice = rows_from 0 t; all = perm_same (rows_from 0 t); rows_are = refl; specs_are = L.specs_are }
+in_order {t = t} L = record { row_choice = rows_from 0 t; all = Permᴰ.refl (rows_from 0 t); rows_are = refl; specs_are = L.specs_are }
 
 -- and answers alike
 pub lookup_in_order : {m k : ℕ} {rows specs : List ℕ} {t : List Declaration} (most : ℕ) → Sound most t → Laid m k rows specs t
@@ -266,10 +248,7 @@ table_lookup s offset l m k rows specs h = go (abbreviations_at s offset l (m / 
 -- ---- the specifications of a found row, by number
 
 pub spec_drop : (l : List ℕ) (j k : ℕ) → spec_at (drop j l) k ≡ spec_at l (j + k)
-spec_drop l j k =
-    let e : j + (k + 1) ≡ j + k + 1 = omega arith in
-    let f : j + (k + 2) ≡ j + k + 2 = omega arith in
-    rw (get_or-drop j l k 0, get_or-drop j l (k + 1) 0, get_or-drop j l (k + 2) 0, e, f)
+spec_drop l j k = grind (arith, common_steps)
 
 pub length_specs : (n : ℕ) (l : List ℕ) → length (specs_from n l) ≡ n
 length_specs zero l = refl
@@ -284,16 +263,13 @@ specs_nth (suc n) (suc i) l d h =
 
 pub both : (a b : Bool) → (a && b) ≡ true → (a ≡ true) × (b ≡ true)
 both true true e = (refl, refl)
-both true false e = let z : ◌≡◌ {A = ℕ} 0 1 = cc in absurd (omega arith)
-both false b e = let z : ◌≡◌ {A = ℕ} 0 1 = cc in absurd (omega arith)
+both true false e = absurd cc
+both false b e = absurd cc
 
 pub fair_nth : (n i : ℕ) (l : List ℕ) → i < n → all_fair (specs_from n l) ≡ true → fair (spec_at l (i * 3)) ≡ true
 fair_nth zero i l h e = absurd (omega arith)
 fair_nth (suc n) zero l h e = (both (fair (spec_at l 0)) (all_fair (specs_from n (drop 3 l))) e).0
-fair_nth (suc n) (suc i) l h e =
-    let f : 3 + i * 3 ≡ suc i * 3 = omega arith in
-    let g = fair_nth n i (drop 3 l) (omega arith) (both (fair (spec_at l 0)) (all_fair (specs_from n (drop 3 l))) e).1 in
-    ap fair (ap (spec_at l) (sym f) ∙ sym (spec_drop l 3 (i * 3))) ∙ g
+fair_nth (suc n) (suc i) l h e = grind (arith, nat_tests, fair_nth n i (drop 3 l), spec_drop l 3 (i * 3))
 
 -- what a row that keeps the sizes has
 pub record Kept (most : ℕ) (specs : List ℕ) (f : Found) : Type 0 where
@@ -302,11 +278,7 @@ pub record Kept (most : ℕ) (specs : List ℕ) (f : Found) : Type 0 where
   pub fairs : all_fair (declaration_of specs f).specifications ≡ true
 
 pub kept : (most : ℕ) (specs : List ℕ) (f : Found) → keeps_sizes most specs f ≡ true → Kept most specs f
-kept most specs f k =
-    let a = (both (ltb 0 f.tag && leb f.tag 65535 && leb f.children 1) (specs_kept most specs f.first f.count) k).1 in
-    let b = both (leb f.count most && leb (f.first + f.count) (length specs / 3)) (all_fair (declaration_of specs f).specifications) a in
-    let d = both (leb f.count most) (leb (f.first + f.count) (length specs / 3)) b.0 in
-    record { most_is = leb-true _ _ d.0; inside = leb-true _ _ d.1; fairs = b.1 }
+kept most specs f k = record { most_is = grind (arith, nat_tests); inside = grind (arith, nat_tests); fairs = grind (arith, nat_tests) }
 
 -- each of them is there, and is the declaration's
 pub attribute_nth : (most : ℕ) (specs : List ℕ) (f : Found) (i : ℕ) (d : Specification) → keeps_sizes most specs f ≡ true → i < f.count
@@ -338,8 +310,4 @@ lookup_keeps most rows specs code =
 -- where the first n rows hold the codes 1, 2, 3, .., a code up to n is found in its own row
 pub direct_row : (most n : ℕ) (rows specs : List ℕ) (code : ℕ) → n ≤ leading rows → 0 < code → code ≤ n → row_found most rows specs (code - 1) ≡ lookup most rows specs code
 unfolding lookup leading
-direct_row most n rows specs code h p q =
-    let f : code - 1 + 1 ≡ code = omega arith in
-    let g = leading_index 1 (code - 1) (column (length rows / 5) rows) (omega arith) in
-    let i : index_of code (column (length rows / 5) rows) ≡ code - 1 = rw f at g in
-    rw (ne_eqb code 0 (λ z. omega arith), i)
+direct_row most n rows specs code h p q = grind (arith, nat_tests, leading_index 1 (code - 1) (column (length rows / 5) rows))

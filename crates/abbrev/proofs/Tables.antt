@@ -14,40 +14,28 @@ use Rattle.reader.proofs.Numbers.{lt_or_le}
 use Rattle.abbrev.specs.Lookup.{column}
 use Rattle.abbrev.specs.Rows.{spec_words, all_specs, row_words, rows_words, rows_from}
 use Rattle.abbrev.specs.Steps.{Fresh, verdict, inserted_number, rest, Took, Placed, Next, Last, Filled}
-use Rattle.abbrev.specs.Table.{Specification, Declaration, Limit, entry_limit, Head, declared, head_at, specifications_at, declaration_at, declarations_at, with_declaration, has}
-use Rattle.abbrev.specs.declared.table.Inserted.{Inserted}
+use Rattle.abbrev.specs.Table.{Specification, Declaration, Limit, entry_limit, declared, head_at, specifications_at, declaration_at, declarations_at, with_declaration, has}
+use Rattle.abbrev.specs.declared.table.Head.{Head}
+use Rattle.std.specs.Prelude.{Result, Err}
+use Rattle.reader.specs.Errors.{number_of}
+use Rattle.reader.proofs.Determined.{number_some}
+use Rattle.reader.specs.declared.error.Error.{Error}
 use Rattle.abbrev.proofs.Attributes.{words_append}
 use Rattle.abbrev.proofs.Columns.{column_more, fresh_none, fresh_more}
-
-abbrev head_of : ℕ → ℕ → ℕ → Head
-head_of code tag children = record { code = code; tag = tag; children = children }
 
 -- what was read, with the next place
 abbrev read : {A : Type 0} → A → ℕ → Option (Read A)
 read v p = some (record { value = v; next = p })
 
--- one declaration, by its parts
-module _ (s : List ℕ) (l : Limit) (at : ℕ) where
-  pub headless : (k : ℕ) → head_at s at ≡ refused k → declaration_at s l at ≡ refused k
-  unfolding declaration_at
-  headless k e = rw e
-
-  pub last : head_at s at ≡ got none → declaration_at s l at ≡ got none
-  unfolding declaration_at
-  last e = rw e
-
-  module _ (h : Head) (p : ℕ) (e : head_at s at ≡ got (read h p)) where
-    pub specless : (k : ℕ) → specifications_at s l.over l.most p ≡ refused k → declaration_at s l at ≡ refused k
-    unfolding declaration_at
-    specless k f = rw (e, f)
-
-    whole : (xs : List Specification) (q : ℕ) → specifications_at s l.over l.most p ≡ gives xs q → declaration_at s l at ≡ got (read (declared h xs) q)
-    unfolding declaration_at
-    whole xs q f = rw (e, f)
+-- one declaration
+whole : (s : List ℕ) (l : Limit) (at : ℕ) (h : Head) (p : ℕ) (xs : List Specification) (q : ℕ) → head_at s at ≡ got (read h p) → specifications_at s l.over l.most p ≡ gives xs q
+    → declaration_at s l at ≡ got (read (declared h xs) q)
+unfolding declaration_at
+whole s l at h p xs q e f = rw (e, f)
 
 -- a table, by its first declaration
 module _ (s : List ℕ) (l : Limit) (m free : ℕ) (seen : List ℕ) (at : ℕ) where
-  pub broken : (k : ℕ) → declaration_at s l at ≡ refused k → declarations_at s l m free seen at ≡ refused k
+  broken : (k : ℕ) → declaration_at s l at ≡ refused k → declarations_at s l m free seen at ≡ refused k
   unfolding declarations_at
   broken k e = by m
     where
@@ -55,13 +43,23 @@ module _ (s : List ℕ) (l : Limit) (m free : ℕ) (seen : List ℕ) (at : ℕ) 
       by zero = rw e
       by (suc m) = rw e
 
-  pub empty : declaration_at s l at ≡ got none → declarations_at s l m free seen at ≡ got []
-  unfolding declarations_at
+  pub headless : {k : ℕ} → head_at s at ≡ refused k → declarations_at s l m free seen at ≡ refused k
+  unfolding declaration_at
+  headless {k} e = broken k (rw e)
+
+  pub specless : {h : Head} {p k : ℕ} → head_at s at ≡ got (read h p) → specifications_at s l.over l.most p ≡ refused k → declarations_at s l m free seen at ≡ refused k
+  unfolding declaration_at
+  specless {k = k} e f = broken k (rw (e, f))
+
+  pub empty : head_at s at ≡ got none → declarations_at s l m free seen at ≡ got []
+  unfolding declaration_at declarations_at
   empty e = by m
     where
       by : (m : ℕ) → declarations_at s l m free seen at ≡ got []
       by zero = rw e
       by (suc m) = rw e
+
+pub ruleset refused_steps = (headless, specless)
 
 abbrev judge : Bool → Bool → Bool → Answer (List Declaration) → Answer (List Declaration)
 judge seen row room t = cond seen (refused 14) (cond row (cond room t (refused 15)) (refused 15))
@@ -94,41 +92,35 @@ judged_yes false true false t h = absurd (omega arith)
 judged_yes false true true t h = (refl, refl, refl)
 
 -- a declaration that was read, and what became of its row
-module _ (at : ℕ) {s : List ℕ} {n first : ℕ} {rows specs rows' specs' : List ℕ} {code tag children p count q : ℕ} {r : Inserted}
-    (e : head_at s at ≡ got (read (head_of code tag children) p)) (t : Took s p first specs specs' count q)
+module _ (at : ℕ) {s : List ℕ} {n first : ℕ} {rows specs rows' specs' : List ℕ} {h : Head} {p count q : ℕ} {A : Type 0} {r : Result A Error}
+    (e : head_at s at ≡ got (read h p)) (t : Took s p first specs specs' count q)
     (w : length specs' ≡ length specs)
-    (v : Placed n count (length specs' / 3 - first) (code ∷ tag ∷ children ∷ first ∷ count ∷ []) rows rows' r) where
+    (v : Placed n count (length specs' / 3 - first) (h.code ∷ h.tag ∷ h.children ∷ first ∷ count ∷ []) rows rows' r) where
   d : Declaration
-  d = declared (head_of code tag children) t.xs
+  d = declared h t.xs
 
   next : Answer (List Declaration)
-  next = with_declaration d (declarations_at s entry_limit (length rows / 5 - n - 1) (length specs / 3 - first - count) (column n rows ++ (code ∷ [])) q)
+  next = with_declaration d (declarations_at s entry_limit (length rows / 5 - n - 1) (length specs / 3 - first - count) (column n rows ++ (h.code ∷ [])) q)
 
-  judged : rest s at n first rows specs ≡ judge (has code (column n rows)) (ltb n (length rows / 5)) (leb count (length specs' / 3 - first)) next
+  judged : rest s at n first rows specs ≡ judge (has h.code (column n rows)) (ltb n (length rows / 5)) (leb count (length specs' / 3 - first)) next
   unfolding d next
   judged =
       rw (
-        after s entry_limit (length rows / 5 - n) (length specs / 3 - first) (column n rows) at d q (whole s entry_limit at (head_of code tag children) p e t.xs q t.is),
+        after s entry_limit (length rows / 5 - n) (length specs / 3 - first) (column n rows) at d q (whole s entry_limit at h p t.xs q e t.is),
         row_left,
         t.len,
         w,
       )
 
-  pub unkept : (inserted_number r ≡ 0 → ⊥) → rest s at n first rows specs ≡ refused (inserted_number r)
-  unkept z =
-      judged
-      ∙ judged_no (has code (column n rows)) (ltb n (length rows / 5)) (leb count (length specs' / 3 - first)) next (λ o. z (v.is ∙ o))
-      ∙ ap refused (sym v.is)
-
-  pub kept : inserted_number r ≡ 0 → n ≤ length rows / 5 → first ≤ length specs / 3 → length rows' ≡ length rows → Next s at n first rows specs rows' specs' code count q
+  pub kept : inserted_number r ≡ 0 → n ≤ length rows / 5 → first ≤ length specs / 3 → length rows' ≡ length rows → Next s at n first rows specs rows' specs' h.code count q
   unfolding d next
-  kept z h g x =
-      let j = judged_yes (has code (column n rows)) (ltb n (length rows / 5)) (leb count (length specs' / 3 - first)) next (sym v.is ∙ z) in
+  kept z k g x =
+      let j = judged_yes (has d.code (column n rows)) (ltb n (length rows / 5)) (leb count (length specs' / 3 - first)) next (sym v.is ∙ z) in
       let l : count ≤ length specs' / 3 - first = leb-true _ _ j.2 in
       let r : n < length rows / 5 = ltb-true _ _ j.1 in
       let m1 : length rows / 5 - n - 1 ≡ length rows / 5 - (n + 1) = omega arith in
       let m2 : length specs / 3 - first - count ≡ length specs / 3 - (first + count) = omega arith in
-      let c = column_more n rows rows' _ h (v.kept z) in
+      let c = column_more n rows rows' _ k (v.kept z) in
       record {
         d = d;
         code_is = refl;
@@ -140,6 +132,15 @@ module _ (at : ℕ) {s : List ℕ} {n first : ℕ} {rows specs rows' specs' : Li
         specs_are = t.kept (omega arith);
         column_is = c;
       }
+
+pub unkept : (at : ℕ) {s : List ℕ} {n first : ℕ} {rows specs rows' specs' : List ℕ} {h : Head} {p count q : ℕ} {A : Type 0} {x : Error}
+    → head_at s at ≡ got (read h p) → Took s p first specs specs' count q → length specs' ≡ length specs
+    → Placed {A = A} n count (length specs' / 3 - first) (h.code ∷ h.tag ∷ h.children ∷ first ∷ count ∷ []) rows rows' (Err x)
+    → rest s at n first rows specs ≡ refused (number_of x)
+unkept at {n = n} {first} {rows} {specs' = specs'} {h} {count = count} {x = x} e t w v =
+    judged at e t w v
+    ∙ judged_no (has h.code (column n rows)) (ltb n (length rows / 5)) (leb count (length specs' / 3 - first)) _ (λ o. omega (arith, number_some x, v.is ∙ o))
+    ∙ ap refused (sym v.is)
 
 rows_snoc : (first : ℕ) (ds : List Declaration) (d : Declaration)
     → rows_words (rows_from first (ds ++ (d ∷ []))) ≡ rows_words (rows_from first ds) ++ row_words (record { declaration = d; first = first + length (all_specs ds) })

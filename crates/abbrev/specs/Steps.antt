@@ -1,16 +1,14 @@
 -- What the private functions promise of the lent words, step by step.
-use Rattle.std.specs.Prelude.{Bool, false, cond, ◌≡◌, List, [], ◌∷◌, ◌++◌, ℕ, ◌+◌, ◌-◌, ◌*◌, ◌/◌, ◌≤◌, ◌<◌, ltb, leb, length, take, get_or}
+use Rattle.std.specs.Prelude.{Bool, false, cond, ◌≡◌, List, [], ◌∷◌, ◌++◌, ℕ, ◌+◌, ◌-◌, ◌*◌, ◌/◌, ◌≤◌, ◌<◌, ltb, leb, length, take, get_or, Option, Result, Ok, Err, MatchOption, MatchResult}
 use Rattle.reader.specs.Answer.{Answer, got, refused, gives}
 use Rattle.reader.specs.Errors.{number_of}
 use Rattle.abbrev.specs.Lookup.{column}
 use Rattle.abbrev.specs.Rows.{spec_words, all_specs, row_words, rows_words, rows_from}
-use Rattle.abbrev.specs.Table.{Specification, Declaration, entry_limit, specifications_at, declarations_at, with_declaration, has}
-use Rattle.abbrev.specs.declared.table.Count.{Count}
-use Rattle.abbrev.specs.declared.table.Count.TheVariants as count
-use Rattle.abbrev.specs.declared.table.Inserted.{Inserted}
-use Rattle.abbrev.specs.declared.table.Inserted.TheVariants as inserted
+use Rattle.abbrev.specs.Table.{Specification, Declaration, entry_limit, specifications_at, declarations_at, with_declaration, has, abbreviations_at}
+use Rattle.abbrev.specs.Tabled.{Tabled}
+use Rattle.abbrev.specs.declared.table.Counts.{Counts}
 use Rattle.abbrev.specs.declared.table.Step.{Step}
-use Rattle.abbrev.specs.declared.table.Step.TheVariants as step
+use Rattle.reader.specs.declared.error.Error.{Error}
 
 -- n rows of k words are as they were, and ws after them, if there are m rows
 abbrev pub After : ℕ → ℕ → List ℕ → List ℕ → ℕ → List ℕ → Type 0
@@ -23,9 +21,9 @@ pub record Took (s : List ℕ) (at first : ℕ) (l l' : List ℕ) (n q : ℕ) : 
   pub is : specifications_at s entry_limit.over entry_limit.most at ≡ gives xs q
   pub kept : After 3 first l (spec_words xs) (first + n) l'
 
-abbrev pub SpecsRead : List ℕ → ℕ → ℕ → List ℕ → List ℕ → Count → Type 0
-SpecsRead s at first l l' (count.Got n q) = Took s at first l l' n q
-SpecsRead s at first l l' (count.Refused e) = specifications_at s entry_limit.over entry_limit.most at ≡ refused (number_of e)
+abbrev pub SpecsRead : List ℕ → ℕ → ℕ → List ℕ → List ℕ → Result (ℕ × ℕ) Error → Type 0
+SpecsRead s at first l l' (Ok x) = Took s at first l l' x.0 x.1
+SpecsRead s at first l l' (Err e) = specifications_at s entry_limit.over entry_limit.most at ≡ refused (number_of e)
 
 -- no code above h was seen
 abbrev pub Fresh : ℕ → List ℕ → Type 0
@@ -35,11 +33,11 @@ Fresh h seen = (c : ℕ) → h < c → has c seen ≡ false
 abbrev pub verdict : Bool → Bool → Bool → ℕ
 verdict seen row room = cond seen 14 (cond row (cond room 0 15) 15)
 
-abbrev pub inserted_number : Inserted → ℕ
-inserted_number inserted.Done = 0
-inserted_number (inserted.Refused e) = number_of e
+abbrev pub inserted_number : {A : Type 0} → Result A Error → ℕ
+inserted_number (Ok _) = 0
+inserted_number (Err e) = number_of e
 
-pub record Placed (n count free : ℕ) (row l l' : List ℕ) (r : Inserted) : Type 0 where
+pub record Placed {A : Type 0} (n count free : ℕ) (row l l' : List ℕ) (r : Result A Error) : Type 0 where
   pub is : inserted_number r ≡ verdict (has (get_or row 0 0) (column n l)) (ltb n (length l / 5)) (leb count free)
   pub kept : inserted_number r ≡ 0 → take ((n + 1) * 5) l' ≡ take (n * 5) l ++ row
 
@@ -65,10 +63,11 @@ pub record Last (s : List ℕ) (at n first : ℕ) (rows specs rows' specs' : Lis
   pub same_rows : rows' ≡ rows
   pub same_specs : specs' ≡ specs
 
-abbrev pub Entered : List ℕ → ℕ → ℕ → ℕ → List ℕ → List ℕ → List ℕ → List ℕ → Step → Type 0
-Entered s at n first rows specs rows' specs' (step.Got c k q) = Next s at n first rows specs rows' specs' c k q
-Entered s at n first rows specs rows' specs' step.End = Last s at n first rows specs rows' specs'
-Entered s at n first rows specs rows' specs' (step.Refused e) = rest s at n first rows specs ≡ refused (number_of e)
+abbrev pub Entered : List ℕ → ℕ → ℕ → ℕ → List ℕ → List ℕ → List ℕ → List ℕ → Result (Option Step) Error → Type 0
+Entered s at n first rows specs rows' specs' r =
+    MatchResult r
+    (λ o. MatchOption o (Last s at n first rows specs rows' specs') (λ x. Next s at n first rows specs rows' specs' x.code x.count x.next))
+    (λ e. rest s at n first rows specs ≡ refused (number_of e))
 
 -- a table in n rows and `first` specification rows
 pub record Filled (s : List ℕ) (at : ℕ) (rows specs rows' specs' : List ℕ) (n first : ℕ) : Type 0 where
@@ -81,6 +80,13 @@ pub record Filled (s : List ℕ) (at : ℕ) (rows specs rows' specs' : List ℕ)
   pub rows_are : take (n * 5) rows' ≡ rows_words (rows_from 0 done)
   pub specs_are : take (first * 3) specs' ≡ spec_words (all_specs done)
 
-abbrev pub Filling : List ℕ → ℕ → List ℕ → List ℕ → List ℕ → List ℕ → Count → Type 0
-Filling s at rows specs rows' specs' (count.Got n first) = Filled s at rows specs rows' specs' n first
-Filling s at rows specs rows' specs' (count.Refused e) = declarations_at s entry_limit (length rows / 5) (length specs / 3) [] at ≡ refused (number_of e)
+abbrev pub Filling : List ℕ → ℕ → List ℕ → List ℕ → List ℕ → List ℕ → Result Counts Error → Type 0
+Filling s at rows specs rows' specs' (Ok x) = Filled s at rows specs rows' specs' x.abbreviations x.specifications
+Filling s at rows specs rows' specs' (Err e) = declarations_at s entry_limit (length rows / 5) (length specs / 3) [] at ≡ refused (number_of e)
+
+-- `Tabled` but for what is left after a refusal
+abbrev pub Parsed : List ℕ → ℕ → List ℕ → List ℕ → List ℕ → List ℕ → Result ℕ Error → Type 0
+Parsed s offset rows₀ specs₀ rows specs r =
+    MatchResult r
+    (λ n. Tabled s offset rows₀ specs₀ rows specs (Ok n))
+    (λ e. abbreviations_at s offset entry_limit (length rows₀ / 5) (length specs₀ / 3) ≡ refused (number_of e))

@@ -7,6 +7,8 @@ use Rattle.reader.specs.Sizes.{max_section}
 use Rattle.reader.specs.Twos.{word}
 use Rattle.reader.specs.Words.{word_at}
 use Rattle.reader.specs.declared.endianity.RunTimeEndian.TheVariants.{Little}
+use Rattle.abbrev.specs.declared.table.Head.{Head}
+use Rattle.abbrev.specs.declared.table.Pair.{Pair}
 
 -- 7.5.3: an attribute specification; the constant is that of DW_FORM_implicit_const in two's complement, else 0
 pub record Specification : Type 0 where
@@ -29,11 +31,6 @@ pub record Limit : Type 0 where
 -- 01, question 13: an entry carries up to 64 values
 abbrev pub entry_limit : Limit
 entry_limit = record { most = 64; over = 13 }
-
--- 7.5.3: an attribute's name and form
-pub record Pair : Type 0 where
-  pub name : ℕ
-  pub form : ℕ
 
 -- 01, questions 11 and 12: of a name and a form both or none are 0
 unfoldable pub judged : ℕ → ℕ → ℕ → Answer (Read Pair)
@@ -77,12 +74,6 @@ tag_at s at = and_then (uleb_at s at 16) (λ r. cond (eqb r.value 0) (refused 9)
 -- 7.5.3: DW_CHILDREN_no or DW_CHILDREN_yes; 01, question 10
 unfoldable pub children_at : List ℕ → ℕ → Answer (Read ℕ)
 children_at s at = and_then (word_at s at 1 Little) (λ r. cond (leb r.value 1) (got r) (refused 10))
-
--- 7.5.3: what stands before the specifications
-pub record Head : Type 0 where
-  pub code : ℕ
-  pub tag : ℕ
-  pub children : ℕ
 
 -- 7.5.3: the same behind its code
 unfoldable pub tagged_at : List ℕ → ℕ → ℕ → Answer (Option (Read Head))

@@ -11,7 +11,7 @@ use reader::error::Error;
 use reader::twos::from_word;
 
 // An abbreviation by its row.
-#[derive(Clone, Copy)]
+#[derive(Clone, Copy, Debug, PartialEq, Eq)]
 pub struct Abbreviation {
     pub code: u64,
     pub tag: u16,
@@ -20,48 +20,24 @@ pub struct Abbreviation {
     pub count: usize,
 }
 
-#[derive(Clone, Copy)]
-pub enum Lookup {
-    Found(Abbreviation),
-    Absent,
-    Refused(Error),
-}
-
-#[derive(Clone, Copy)]
+#[derive(Clone, Copy, Debug, PartialEq, Eq)]
 pub struct AttributeSpecification {
     pub name: u16,
     pub form: u16,
     pub constant: u64,
 }
 
-#[derive(Clone, Copy)]
-pub enum Specified {
-    Got(AttributeSpecification),
-    Absent,
-    Refused(Error),
-}
-
-#[derive(Clone, Copy)]
-pub enum Constant {
-    Value(i64),
-    Absent,
-}
-
 // Whether names and forms of `count` specifications have 16 bits.
+#[tactic(auto, using(crate::proofs::Fairs::specs_next))]
 fn all_fair(specs: &[u64], first: usize, count: usize) -> bool
     requires { first + count ≤ length specs.now / 3 }
     ensures { result ≡ all_fair (specs_from count (drop (first * 3) specs.now)) }
 {
-    let mut i: usize = 0;
-    while i < count {
+    for i in 0..count {
         let at = (first + i) * 3;
-        if 65535 < specs[at] {
+        if 65535 < specs[at] || 65535 < specs[at + 1] {
             return false;
         }
-        if 65535 < specs[at + 1] {
-            return false;
-        }
-        i += 1;
     }
     true
 }
@@ -70,112 +46,99 @@ fn all_fair(specs: &[u64], first: usize, count: usize) -> bool
 fn within(specs: &[u64], first: u64, count: u64) -> bool
     ensures { result ≡ specs_kept entry_limit.most specs.now first count }
 {
-    if (MAX_ATTRIBUTES as u64) < count {
-        return false;
-    }
     let whole = (specs.len() / 3) as u64;
-    if whole < count {
-        return false;
-    }
-    if whole - count < first {
-        return false;
-    }
-    all_fair(specs, first as usize, count as usize)
+    count <= MAX_ATTRIBUTES as u64
+        && count <= whole
+        && first <= whole - count
+        && all_fair(specs, first as usize, count as usize)
 }
 
 // A row found for a code, held to document 01's sizes.
-fn judge_row(specs: &[u64], code: u64, tag: u64, children: u64, first: u64, count: u64) -> Lookup
+#[tactic(auto, unfolding(crate::specs::Lookup::judged_row))]
+fn judge_row(
+    specs: &[u64],
+    code: u64,
+    tag: u64,
+    children: u64,
+    first: u64,
+    count: u64,
+) -> Result<Option<Abbreviation>, Error>
     ensures { view_lookup result ≡ judged_row entry_limit.most specs.now (record { code = code; tag = tag; children = children; first = first; count = count }) }
 {
-    if tag == 0 {
-        return Lookup::Refused(Error::SizeLimit);
+    if tag == 0 || 65535 < tag || 1 < children || !within(specs, first, count) {
+        return Err(Error::SizeLimit);
     }
-    if 65535 < tag {
-        return Lookup::Refused(Error::SizeLimit);
-    }
-    if 1 < children {
-        return Lookup::Refused(Error::SizeLimit);
-    }
-    if within(specs, first, count) {
-        return Lookup::Found(Abbreviation {
-            code,
-            tag: tag as u16,
-            has_children: children == 1,
-            first: first as usize,
-            count: count as usize,
-        });
-    }
-    Lookup::Refused(Error::SizeLimit)
+    Ok(Some(Abbreviation {
+        code,
+        tag: tag as u16,
+        has_children: children == 1,
+        first: first as usize,
+        count: count as usize,
+    }))
 }
 
 // The `i`-th row; absent past the whole rows.
-pub fn row(rows: &[u64], specs: &[u64], i: usize) -> Lookup
+#[tactic(auto, unfolding(crate::specs::Lookup::row_found))]
+pub fn row(rows: &[u64], specs: &[u64], i: usize) -> Result<Option<Abbreviation>, Error>
     ensures { view_lookup result ≡ row_found entry_limit.most rows.now specs.now i }
 {
-    if i < rows.len() / 5 {
-        let at = i * 5;
-        return judge_row(
-            specs,
-            rows[at],
-            rows[at + 1],
-            rows[at + 2],
-            rows[at + 3],
-            rows[at + 4],
-        );
+    if rows.len() / 5 <= i {
+        return Ok(None);
     }
-    Lookup::Absent
+    let at = i * 5;
+    judge_row(
+        specs,
+        rows[at],
+        rows[at + 1],
+        rows[at + 2],
+        rows[at + 3],
+        rows[at + 4],
+    )
 }
 
 // gimli's `Abbreviations::get`: the lowest row with the code.
-pub fn get(rows: &[u64], specs: &[u64], code: u64) -> Lookup
+#[tactic(auto, unfolding(crate::specs::Lookup::lookup))]
+pub fn get(rows: &[u64], specs: &[u64], code: u64) -> Result<Option<Abbreviation>, Error>
     ensures { view_lookup result ≡ lookup entry_limit.most rows.now specs.now code }
 {
     if code == 0 {
-        return Lookup::Absent;
+        return Ok(None);
     }
-    let n = rows.len() / 5;
-    let i = find(rows, n, code);
-    row(rows, specs, i)
+    row(rows, specs, find(rows, rows.len() / 5, code))
 }
 
 // How many leading rows hold the codes 1, 2, 3, ..
+#[tactic(auto, using(crate::proofs::Columns::column_next), unfolding(crate::specs::Lookup::leading))]
 pub fn leading(rows: &[u64]) -> usize
     ensures { result ≡ leading rows.now }
 {
     let n = rows.len() / 5;
-    let mut i: usize = 0;
-    while i < n {
-        let code = (i + 1) as u64;
-        if rows[i * 5] != code {
-            return i;
+    // By code: with the row counted, LLVM takes the next row's place from the code that it loaded.
+    for code in 1..n + 1 {
+        if rows[(code - 1) * 5] != code as u64 {
+            return code - 1;
         }
-        i += 1;
     }
     n
 }
 
 // One specification row by its number.
-pub fn specification(specs: &[u64], i: usize) -> Specified
+#[tactic(auto, unfolding(crate::specs::Lookup::specification_at))]
+pub fn specification(specs: &[u64], i: usize) -> Result<Option<AttributeSpecification>, Error>
     ensures { view_specified result ≡ specification_at specs.now i }
 {
     if specs.len() / 3 <= i {
-        return Specified::Absent;
+        return Ok(None);
     }
     let at = i * 3;
-    let name = specs[at];
-    let form = specs[at + 1];
-    let constant = specs[at + 2];
-    if 65535 < name {
-        return Specified::Refused(Error::SizeLimit);
+    if 65535 < specs[at] || 65535 < specs[at + 1] {
+        return Err(Error::SizeLimit);
     }
-    if 65535 < form {
-        return Specified::Refused(Error::SizeLimit);
-    }
-    Specified::Got(AttributeSpecification {
-        name: name as u16,
-        form: form as u16,
-        constant,
-    })
+    Ok(Some(AttributeSpecification {
+        name: specs[at] as u16,
+        form: specs[at + 1] as u16,
+        constant: specs[at + 2],
+    }))
 }
 
 impl Abbreviation {
@@ -201,32 +164,21 @@ impl Abbreviation {
     pub fn keeps_sizes(self, specs: &[u64]) -> bool
         ensures { result ≡ keeps_sizes entry_limit.most specs.now (found_of self) }
     {
-        let tag = self.tag;
-        if tag == 0 {
-            return false;
-        }
-        let first = self.first as u64;
-        let count = self.count as u64;
-        within(specs, first, count)
+        self.tag != 0 && within(specs, self.first as u64, self.count as u64)
     }
 
     // gimli's `attributes`, by number.
-    pub fn attribute(self, specs: &[u64], i: usize) -> Specified
+    #[tactic(auto, unfolding(crate::specs::Lookup::specification_at, crate::specs::Lookup::specification_in))]
+    pub fn attribute(self, specs: &[u64], i: usize) -> Result<Option<AttributeSpecification>, Error>
         ensures { view_specified result ≡ specification_in specs.now (found_of self) i }
     {
-        let first = self.first;
-        let count = self.count;
-        if count <= i {
-            return Specified::Absent;
+        if self.count <= i {
+            return Ok(None);
         }
-        let whole = specs.len() / 3;
-        if whole <= first {
-            return Specified::Absent;
+        match self.first.checked_add(i) {
+            Some(at) => specification(specs, at),
+            None => Ok(None),
         }
-        if whole - first <= i {
-            return Specified::Absent;
-        }
-        specification(specs, first + i)
     }
 }
 
@@ -244,13 +196,13 @@ impl AttributeSpecification {
     }
 
     // The constant of DW_FORM_implicit_const.
-    pub fn implicit_const_value(self) -> Constant
+    #[tactic(auto, unfolding(crate::specs::Lookup::implicit_const_of))]
+    pub fn implicit_const_value(self) -> Option<i64>
         ensures { view_constant result ≡ implicit_const_of (specification_of self) }
     {
-        let form = self.form;
-        if (form as u64) == IMPLICIT_CONST {
-            return Constant::Value(from_word(self.constant));
+        if u64::from(self.form) == IMPLICIT_CONST {
+            return Some(from_word(self.constant));
         }
-        Constant::Absent
+        None
     }
 }

@@ -1,18 +1,18 @@
 // A table read into rows.
 
 ghost use Rattle.std.specs.Prelude.{◌≡◌, not, [], ◌∷◌, ◌+◌, ◌/◌, ◌≤◌, length};
-ghost use Rattle.reader.specs.Views.{view_word};
+ghost use Rattle.reader.specs.Views.{view_read};
 ghost use Rattle.abbrev.specs.Lookup.{column};
-ghost use Rattle.abbrev.specs.Steps.{After, SpecsRead, Fresh, Placed, Entered, Filling};
-ghost use Rattle.abbrev.specs.Table.{entry_limit, judged, pair_at, constant_at, tag_at, children_at, tagged_at, head_at, has};
+ghost use Rattle.abbrev.specs.Steps.{After, SpecsRead, Fresh, Placed, Entered, Filling, Parsed};
+ghost use Rattle.abbrev.specs.Table.{entry_limit, judged, pair_at, constant_at, tag_at, children_at, head_at, has};
 ghost use Rattle.abbrev.specs.Tabled.{Tabled};
-ghost use Rattle.abbrev.specs.Views.{view_pair, view_head};
+ghost use Rattle.abbrev.specs.Views.{view_head};
 
-use super::rows::{find, put3, put5, wipe};
-use reader::answer::{SignedWord, Word};
+use super::rows::{find, wipe};
+use reader::answer::Read;
 use reader::common::MAX_SECTION;
 use reader::error::Error;
-use reader::fill::clear_words;
+use reader::fill::fill;
 use reader::leb128::{sleb128, uleb128, uleb128_u16};
 use reader::twos::to_word;
 use reader::words::read_u8;
@@ -23,144 +23,109 @@ pub const MAX_ATTRIBUTES: usize = 64;
 // DW_FORM_implicit_const.
 pub const IMPLICIT_CONST: u64 = 0x21;
 
-// A name, a form and the next place; both are 0 at the end.
+// A name and a form (DWARF 5, 7.5.3); both are 0 at the end.
 #[derive(Clone, Copy)]
-enum Pair {
-    Got(u64, u64, usize),
-    Refused(Error),
+struct Pair {
+    name: u64,
+    form: u64,
 }
 
-// A code, a tag, whether there are children, and the next place.
+// What stands before the specifications (7.5.3).
 #[derive(Clone, Copy)]
-enum Head {
-    Got(u64, u64, u64, usize),
-    End,
-    Refused(Error),
+struct Head {
+    code: u64,
+    tag: u64,
+    children: u64,
 }
 
-// How many were read, and the next place or row.
+// One abbreviation that was read: its code, how many specifications it has, and the next place.
 #[derive(Clone, Copy)]
-enum Count {
-    Got(usize, usize),
-    Refused(Error),
+struct Step {
+    code: u64,
+    count: usize,
+    next: usize,
 }
 
-// A code, how many specifications it has, and the next place.
+// How many rows are in use.
 #[derive(Clone, Copy)]
-enum Step {
-    Got(u64, usize, usize),
-    End,
-    Refused(Error),
+struct Counts {
+    abbreviations: usize,
+    specifications: usize,
 }
 
-#[derive(Clone, Copy)]
-enum Inserted {
-    Done,
-    Refused(Error),
-}
-
-// How many abbreviations the rows hold.
-#[derive(Clone, Copy)]
-pub enum Abbreviations {
-    Got(usize),
-    Refused(Error),
-}
-
-fn judge(name: u64, form: u64, next: usize) -> Pair
-    ensures { view_pair result ≡ judged name form next }
+#[tactic(auto, unfolding(crate::specs::Table::judged))]
+fn judge(name: u64, form: u64, next: usize) -> Read<Pair>
+    ensures { view_read result ≡ judged name form next }
 {
-    if name == 0 {
-        if form == 0 {
-            return Pair::Got(name, form, next);
-        }
-        return Pair::Refused(Error::AttributeNameZero);
+    match (name, form) {
+        (0, 1..) => Err(Error::AttributeNameZero),
+        (1.., 0) => Err(Error::AttributeFormZero),
+        _ => Ok((Pair { name, form }, next)),
     }
-    if form == 0 {
-        return Pair::Refused(Error::AttributeFormZero);
-    }
-    Pair::Got(name, form, next)
 }
 
-fn parse_pair(s: &[u8], at: usize) -> Pair
-    ensures { view_pair result ≡ pair_at s.now at }
+#[tactic(auto, unfolding(crate::specs::Table::pair_at))]
+fn parse_pair(s: &[u8], at: usize) -> Read<Pair>
+    ensures { view_read result ≡ pair_at s.now at }
 {
-    match uleb128_u16(s, at) {
-        Word::Got(name, p) => match uleb128_u16(s, p) {
-            Word::Got(form, q) => judge(name, form, q),
-            Word::Refused(e) => Pair::Refused(e),
-        },
-        Word::Refused(e) => Pair::Refused(e),
-    }
+    let (name, p) = uleb128_u16(s, at)?;
+    let (form, q) = uleb128_u16(s, p)?;
+    judge(name, form, q)
 }
 
-fn parse_constant(s: &[u8], at: usize, form: u64) -> Word
-    ensures { view_word result ≡ constant_at s.now at form }
+#[tactic(auto, unfolding(crate::specs::Table::constant_at))]
+fn parse_constant(s: &[u8], at: usize, form: u64) -> Read<u64>
+    ensures { view_read result ≡ constant_at s.now at form }
 {
-    if form == IMPLICIT_CONST {
-        match sleb128(s, at) {
-            SignedWord::Got(z, p) => Word::Got(to_word(z), p),
-            SignedWord::Refused(e) => Word::Refused(e),
-        }
-    } else {
-        Word::Got(0, at)
+    if form != IMPLICIT_CONST {
+        return Ok((0, at));
     }
+    let (z, p) = sleb128(s, at)?;
+    Ok((to_word(z), p))
 }
 
-fn parse_tag(s: &[u8], at: usize) -> Word
-    ensures { view_word result ≡ tag_at s.now at }
+#[tactic(auto, unfolding(crate::specs::Table::tag_at))]
+fn parse_tag(s: &[u8], at: usize) -> Read<u64>
+    ensures { view_read result ≡ tag_at s.now at }
 {
-    match uleb128_u16(s, at) {
-        Word::Got(tag, p) => {
-            if tag == 0 {
-                return Word::Refused(Error::AbbreviationTagZero);
-            }
-            Word::Got(tag, p)
-        }
-        Word::Refused(e) => Word::Refused(e),
+    let (tag, p) = uleb128_u16(s, at)?;
+    if tag == 0 {
+        return Err(Error::AbbreviationTagZero);
     }
+    Ok((tag, p))
 }
 
-fn parse_has_children(s: &[u8], at: usize) -> Word
-    ensures { view_word result ≡ children_at s.now at }
+#[tactic(auto, unfolding(crate::specs::Table::children_at))]
+fn parse_has_children(s: &[u8], at: usize) -> Read<u64>
+    ensures { view_read result ≡ children_at s.now at }
 {
-    match read_u8(s, at) {
-        Word::Got(children, p) => {
-            if children <= 1 {
-                return Word::Got(children, p);
-            }
-            Word::Refused(Error::InvalidAbbreviationChildren)
-        }
-        Word::Refused(e) => Word::Refused(e),
+    let (children, p) = read_u8(s, at)?;
+    if 1 < children {
+        return Err(Error::InvalidAbbreviationChildren);
     }
+    Ok((children, p))
 }
 
-fn parse_tagged(s: &[u8], at: usize, code: u64) -> Head
-    ensures { view_head result ≡ tagged_at s.now at code }
-{
-    match parse_tag(s, at) {
-        Word::Got(tag, p) => match parse_has_children(s, p) {
-            Word::Got(children, q) => Head::Got(code, tag, children, q),
-            Word::Refused(e) => Head::Refused(e),
-        },
-        Word::Refused(e) => Head::Refused(e),
-    }
-}
-
-fn parse_head(s: &[u8], at: usize) -> Head
+// A code, a tag and whether there are children; none at the end.
+#[tactic(auto, unfolding(crate::specs::Table::head_at, crate::specs::Table::tagged_at))]
+fn parse_head(s: &[u8], at: usize) -> Result<Option<(Head, usize)>, Error>
     ensures { view_head result ≡ head_at s.now at }
 {
     if s.len() <= at {
-        return Head::End;
+        return Ok(None);
     }
-    match uleb128(s, at) {
-        Word::Got(code, p) => {
-            if code == 0 {
-                return Head::End;
-            }
-            parse_tagged(s, p, code)
-        }
-        Word::Refused(e) => Head::Refused(e),
+    let (code, p) = uleb128(s, at)?;
+    if code == 0 {
+        return Ok(None);
     }
+    let (tag, q) = parse_tag(s, p)?;
+    let (children, next) = parse_has_children(s, q)?;
+    let head = Head {
+        code,
+        tag,
+        children,
+    };
+    Ok(Some((head, next)))
 }
 
 // A specification, where there is a row for it.
@@ -168,50 +133,42 @@ fn store(specs: &mut [u64], row: usize, name: u64, form: u64, constant: u64)
     ensures { After 3 row specs.old (name ∷ form ∷ constant ∷ []) (row + 1) specs.new }
 {
     if row < specs.len() / 3 {
-        put3(specs, row * 3, name, form, constant);
+        specs[row * 3..row * 3 + 3].copy_from_slice(&[name, form, constant]);
     }
 }
 
-// The specifications of one abbreviation, into the rows from `first` on.
-fn parse_attributes(s: &[u8], at: usize, specs: &mut [u64], first: usize) -> Count
+// The specifications of one abbreviation, into the rows from `first` on: how many they are.
+#[tactic(auto, using(crate::proofs::Attributes::refused_steps))]
+fn parse_attributes(s: &[u8], at: usize, specs: &mut [u64], first: usize) -> Read<usize>
     requires { first ≤ length specs.old / 3 }
     ensures { SpecsRead s.now at first specs.old specs.new result }
 {
     let mut n: usize = 0;
     let mut p = at;
+    // No `for`: the pair after the last that there is room for is read too, as it may be the end.
     loop {
-        match parse_pair(s, p) {
-            Pair::Refused(e) => return Count::Refused(e),
-            Pair::Got(name, form, next) => {
-                if form == 0 {
-                    return Count::Got(n, next);
-                }
-                if n == MAX_ATTRIBUTES {
-                    return Count::Refused(Error::TooManyAttributes);
-                }
-                match parse_constant(s, next, form) {
-                    Word::Refused(e) => return Count::Refused(e),
-                    Word::Got(constant, q) => {
-                        store(specs, first + n, name, form, constant);
-                        n += 1;
-                        p = q;
-                    }
-                }
-            }
+        let (pair, next) = parse_pair(s, p)?;
+        if pair.form == 0 {
+            return Ok((n, next));
         }
+        if n == MAX_ATTRIBUTES {
+            return Err(Error::TooManyAttributes);
+        }
+        let (constant, q) = parse_constant(s, next, pair.form)?;
+        store(specs, first + n, pair.name, pair.form, constant);
+        n += 1;
+        p = q;
     }
 }
 
 // Whether none of `n` rows has the code. No code is above `highest`, so that in rising order, the
 // order that compilers write, none is searched for.
+#[tactic(auto, using(crate::proofs::Columns::new_code))]
 fn is_new(rows: &[u64], n: usize, highest: u64, code: u64) -> bool
     requires { (n ≤ length rows.now / 5) × Fresh highest (column n rows.now) }
     ensures { result ≡ not (has code (column n rows.now)) }
 {
-    if highest < code {
-        return true;
-    }
-    n <= find(rows, n, code)
+    highest < code || n <= find(rows, n, code)
 }
 
 // A row for an abbreviation after `n` of them, with `free` specification rows for its `count`.
@@ -219,30 +176,33 @@ fn insert(
     rows: &mut [u64],
     n: usize,
     highest: u64,
-    code: u64,
-    tag: u64,
-    children: u64,
+    head: Head,
     first: usize,
     count: usize,
     free: usize,
-) -> Inserted
+) -> Result<(), Error>
     requires { (n ≤ length rows.old / 5) × Fresh highest (column n rows.old) }
-    ensures { Placed n count free (code ∷ tag ∷ children ∷ first ∷ count ∷ []) rows.old rows.new result }
+    ensures { Placed n count free (head.code ∷ head.tag ∷ head.children ∷ first ∷ count ∷ []) rows.old rows.new result }
 {
-    if is_new(rows, n, highest, code) {
-        if rows.len() / 5 <= n {
-            return Inserted::Refused(Error::AbbreviationsFull);
-        }
-        if free < count {
-            return Inserted::Refused(Error::AbbreviationsFull);
-        }
-        put5(rows, n * 5, code, tag, children, first as u64, count as u64);
-        return Inserted::Done;
+    if !is_new(rows, n, highest, head.code) {
+        return Err(Error::DuplicateAbbreviationCode);
     }
-    Inserted::Refused(Error::DuplicateAbbreviationCode)
+    if rows.len() / 5 <= n || free < count {
+        return Err(Error::AbbreviationsFull);
+    }
+    let row = [
+        head.code,
+        head.tag,
+        head.children,
+        first as u64,
+        count as u64,
+    ];
+    rows[n * 5..n * 5 + 5].copy_from_slice(&row);
+    Ok(())
 }
 
-// One abbreviation, after `n` of them with `first` specifications.
+// One abbreviation, after `n` of them with `first` specifications; none at the end.
+#[tactic(auto, using(crate::proofs::Tables::refused_steps))]
 fn parse_abbreviation(
     s: &[u8],
     at: usize,
@@ -251,52 +211,64 @@ fn parse_abbreviation(
     n: usize,
     first: usize,
     highest: u64,
-) -> Step
+) -> Result<Option<Step>, Error>
     requires { (n ≤ length rows.old / 5) × (first ≤ length specs.old / 3) × Fresh highest (column n rows.old) }
     ensures { Entered s.now at n first rows.old specs.old rows.new specs.new result }
 {
-    match parse_head(s, at) {
-        Head::Refused(e) => Step::Refused(e),
-        Head::End => Step::End,
-        Head::Got(code, tag, children, p) => match parse_attributes(s, p, specs, first) {
-            Count::Refused(e) => Step::Refused(e),
-            Count::Got(count, q) => {
-                let free = specs.len() / 3 - first;
-                match insert(rows, n, highest, code, tag, children, first, count, free) {
-                    Inserted::Done => Step::Got(code, count, q),
-                    Inserted::Refused(e) => Step::Refused(e),
-                }
-            }
-        },
-    }
+    let Some((head, p)) = parse_head(s, at)? else {
+        return Ok(None);
+    };
+    let (count, next) = parse_attributes(s, p, specs, first)?;
+    let free = specs.len() / 3 - first;
+    insert(rows, n, highest, head, first, count, free)?;
+    Ok(Some(Step {
+        code: head.code,
+        count,
+        next,
+    }))
 }
 
-fn greater(a: u64, b: u64) -> u64
-    ensures { (a ≤ result) × (b ≤ result) }
-{
-    if a < b { b } else { a }
-}
-
-// The whole table: how many abbreviations and specifications it has.
-fn parse(s: &[u8], at: usize, rows: &mut [u64], specs: &mut [u64]) -> Count
+// The whole table.
+fn parse(s: &[u8], at: usize, rows: &mut [u64], specs: &mut [u64]) -> Result<Counts, Error>
     ensures { Filling s.now at rows.old specs.old rows.new specs.new result }
 {
     let mut n: usize = 0;
     let mut first: usize = 0;
     let mut highest: u64 = 0;
     let mut p = at;
-    loop {
-        match parse_abbreviation(s, p, rows, specs, n, first, highest) {
-            Step::Refused(e) => return Count::Refused(e),
-            Step::End => return Count::Got(n, first),
-            Step::Got(code, count, q) => {
-                highest = greater(highest, code);
-                n += 1;
-                first += count;
-                p = q;
-            }
-        }
+    while let Some(step) = parse_abbreviation(s, p, rows, specs, n, first, highest)? {
+        highest = highest.max(step.code);
+        n += 1;
+        first += step.count;
+        p = step.next;
     }
+    Ok(Counts {
+        abbreviations: n,
+        specifications: first,
+    })
+}
+
+// The table at an offset; after a refusal the rows are not zero yet.
+#[tactic(auto, unfolding(crate::specs::Table::abbreviations_at))]
+fn parse_at(
+    section: &[u8],
+    offset: u64,
+    rows: &mut [u64],
+    specs: &mut [u64],
+) -> Result<usize, Error>
+    ensures { Parsed section.now offset rows.old specs.old rows.new specs.new result }
+{
+    if MAX_SECTION < section.len() {
+        return Err(Error::SizeLimit);
+    }
+    let at = offset as usize;
+    if section.len() < at {
+        return Err(Error::UnexpectedEof);
+    }
+    let used = parse(section, at, rows, specs)?;
+    fill(rows, used.abbreviations * 5, 0);
+    fill(specs, used.specifications * 3, 0);
+    Ok(used.abbreviations)
 }
 
 // The section .debug_abbrev.
@@ -304,34 +276,19 @@ fn parse(s: &[u8], at: usize, rows: &mut [u64], specs: &mut [u64]) -> Count
 pub struct DebugAbbrev {}
 
 impl DebugAbbrev {
-    // The table at an offset of the section, into lent rows.
+    // The table at an offset of the section, into lent rows: how many abbreviations they hold.
     pub fn abbreviations(
         section: &[u8],
         offset: u64,
         rows: &mut [u64],
         specs: &mut [u64],
-    ) -> Abbreviations
+    ) -> Result<usize, Error>
         ensures { Tabled section.now offset rows.old specs.old rows.new specs.new result }
     {
-        if MAX_SECTION < section.len() {
+        let result = parse_at(section, offset, rows, specs);
+        if result.is_err() {
             wipe(rows, specs);
-            return Abbreviations::Refused(Error::SizeLimit);
         }
-        let at = offset as usize;
-        if section.len() < at {
-            wipe(rows, specs);
-            return Abbreviations::Refused(Error::UnexpectedEof);
-        }
-        match parse(section, at, rows, specs) {
-            Count::Got(n, first) => {
-                clear_words(rows, n * 5);
-                clear_words(specs, first * 3);
-                Abbreviations::Got(n)
-            }
-            Count::Refused(e) => {
-                wipe(rows, specs);
-                Abbreviations::Refused(e)
-            }
-        }
+        result
     }
 }

@@ -1,9 +1,6 @@
-use Prim.Native.Nat.{◌-◌}
-use Rattle.abbrev.proofs.Columns.{Passed}
+use Rattle.std.proofs.Common.{◌≡◌, ◌+◌, ◌-◌, ◌*◌, drop}
+use Rattle.abbrev.specs.Lookup.{column, index_of}
 use Rattle.abbrev.proofs.rows.find.Given as goal
 
 abbrev pub invariant-loop-i : goal.invariant-loop-i
-invariant-loop-i l = Passed l.rows l.n l.code l.i
-
-abbrev pub decreases-loop-i : goal.decreases-loop-i
-decreases-loop-i l = l.n - l.i
+invariant-loop-i l = index_of l.code (column l.n l.rows) ≡ l.i + index_of l.code (column (l.n - l.i) (drop (l.i * 5) l.rows))
