@@ -1,15 +1,16 @@
 -- Laws of reading a header.
-use mathlib.Core.Bool.{Bool, true, false, cond}
+use mathlib.Core.Bool.{cond}
 use mathlib.Core.Path.{◌≡◌, refl, sym, ap}
 use mathlib.Core.List.{List}
 use Prim.Native.Nat.{ℕ, ◌+◌, ◌≤◌, ◌<◌}
 use native.Mathlib.Omega.{arith}
-use borrow.Author.Tests.{ne_eqb, eqb-true, leb-true}
+use borrow.Author.Tests.{eqb-true, leb-true}
 use lib.Dec.{eqb, leb}
 use lib.ListN.{length, take}
 use lib.Seq.{length-take-le}
 use Rattle.reader.specs.Answer.{Answer, got, refused, and_then, Read, gives, Holds}
-use Rattle.reader.specs.Fields.{address_size_at, offset_at, is_address_size, word_size, initial_length_size, Initial, initial_length_at, skip_at}
+use Rattle.reader.specs.Fields.{address_size_at, offset_at, is_address_size, word_size, initial_length_size, initial_length_at, skip_at}
+use Rattle.reader.specs.declared.answer.Initial.{Initial}
 use Rattle.reader.specs.Sizes.{max_section}
 use Rattle.reader.specs.Words.{word_at}
 use Rattle.reader.specs.declared.common.Format.{Format}
@@ -19,28 +20,17 @@ use Rattle.reader.proofs.Answers.{holds_then, cond_by}
 use Rattle.reader.proofs.FieldLaws.{initial_in, skip_in}
 use Rattle.reader.proofs.WordLaws.{WordIn, word_in}
 use Rattle.unit.specs.Header.{type_number, type_size, size_of_header, unit_end}
-use Rattle.unit.specs.Parse.{UnitSection, two_to_five, section_of, Common, signature_at, type_at, older_at, typed_at, newer_at, common_at, rest_at, body_at, header_at}
+use Rattle.unit.specs.Parse.{UnitSection, two_to_five, section_of, signature_at, type_at, older_at, typed_at, newer_at, common_at, rest_at, body_at, header_at}
 use Rattle.unit.specs.declared.header.UnitHeader.{UnitHeader}
 use Rattle.unit.specs.declared.header.UnitType.{UnitType}
 use Rattle.unit.specs.declared.header.UnitType.TheVariants.{Compilation, «Type», Partial, Skeleton, SplitCompilation, SplitType}
+use Rattle.unit.specs.declared.parse.Common.{Common}
 use Rattle.unit.specs.declared.parse.SectionId.{SectionId}
 use Rattle.unit.specs.declared.parse.SectionId.TheVariants as section
 
--- the two types with a signature, the two with a dwo_id, and no others
-module _ (s : List ℕ) (at : ℕ) (f : Format) (e : RunTimeEndian) where
-  pub type_signed : (split : Bool) → type_at s at (cond split 6 2) f e ≡ and_then (signature_at s at f e) (λ r. gives (cond split (SplitType r.value.signature r.value.offset) («Type» r.value.signature r.value.offset)) r.next)
-  unfolding type_at
-  type_signed true = refl
-  type_signed false = refl
-
-  pub type_dwo : (split : Bool) → type_at s at (cond split 5 4) f e ≡ and_then (word_at s at 8 e) (λ r. gives (cond split (SplitCompilation r.value) (Skeleton r.value)) r.next)
-  unfolding type_at
-  type_dwo true = refl
-  type_dwo false = refl
-
-  pub type_unknown : (n : ℕ) → (n ≡ 1 → ⊥) → (n ≡ 2 → ⊥) → (n ≡ 3 → ⊥) → (n ≡ 4 → ⊥) → (n ≡ 5 → ⊥) → (n ≡ 6 → ⊥) → type_at s at n f e ≡ refused 8
-  unfolding type_at
-  type_unknown n a b c d x y = rw (ne_eqb n 1 a, ne_eqb n 2 b, ne_eqb n 3 c, ne_eqb n 4 d, ne_eqb n 5 x, ne_eqb n 6 y)
+-- what holds of an answer holds of the value that was got
+pub of_got : {A : Type 0} (P : A → Type 0) (r : Answer A) {a : A} → got a ≡ r → Holds P r → P a
+of_got P r q h = rw (← q) at h
 
 -- ---- sections
 
@@ -227,3 +217,7 @@ header_in sec s at e =
           there = omega (arith, b.unit_length, h.0, k.0, k.1);
         }
     whole z l h end k (refused n) b = tt
+
+-- so the unit of a header that was read ends in the section
+pub header_there : (sec : UnitSection) (s : List ℕ) (at : ℕ) (e : RunTimeEndian) {h : UnitHeader} {p : ℕ} → gives h p ≡ header_at sec s at e → at + unit_end h ≤ length s
+header_there sec s at e q = (of_got _ _ q (header_in sec s at e)).there

@@ -1,20 +1,24 @@
 -- Laws of parts of a unit.
-use mathlib.Core.Bool.{true, cond, and-false, ◌&&◌}
+use mathlib.Core.Bool.{true, and-false, ◌&&◌}
 use mathlib.Core.Logic.{⊎_elim}
 use mathlib.Core.Path.{refl, sym, ap, subst, ◌≡◌, ◌∙◌}
 use mathlib.Core.List.{List}
-use Prim.Native.Nat.{ℕ, ◌+◌, ◌-◌, ◌≤◌, ◌<◌}
+use Prim.Native.Nat.{ℕ, min, ◌+◌, ◌-◌, ◌≤◌, ◌<◌}
 use native.Mathlib.Omega.{arith}
 use borrow.Author.Tests.{le-leb, lt-leb, ltb-true}
 use lib.Dec.{leb, ltb}
 use lib.ListN.{length, take, drop, length-drop}
 use lib.Seq.{take_all}
+use Rattle.std.specs.Prelude.{Option, Some, None}
+use Rattle.std.specs.Borrow.{Bor}
+use Rattle.std.specs.Option.{ok_or}
+use Rattle.std.specs.Slice.{IsGetRangeResult}
+use Rattle.reader.specs.declared.error.Error.TheVariants.{OffsetOutOfBounds}
 use Rattle.reader.specs.Answer.{Answer, got, refused, Read, Holds}
 use Rattle.reader.specs.Sizes.{max_section}
 use Rattle.reader.specs.declared.endianity.RunTimeEndian.{RunTimeEndian}
 use Rattle.reader.proofs.Answers.{cond_by}
-use Rattle.reader.proofs.Numbers.{lt_or_le}
-use Rattle.abbrev.proofs.Lookups.{both}
+use Rattle.std.proofs.lemmas.Bool.{cases_lt, and_parts}
 use Rattle.unit.specs.Header.{size_of_header, unit_end, in_bounds}
 use Rattle.unit.specs.Parse.{UnitSection, header_at}
 use Rattle.unit.specs.Range.{part, Handed, unit_bytes, entries_buf, range_from}
@@ -35,29 +39,20 @@ module _ (s : List ℕ) (a b : ℕ) where
   part_there h k = rw (le-leb a b h, le-leb b (length s) k)
 
 -- an end past the slice is as good as any other
-pub part_end : (s : List ℕ) (a b n : ℕ) → length s ≤ a + n → part s a (a + cond (leb b n) b (n + 1)) ≡ part s a (a + b)
-part_end s a b n h = ⊎_elim yes no (lt_or_le n b)
-  where
-    yes : n < b → part s a (a + cond (leb b n) b (n + 1)) ≡ part s a (a + b)
-    yes k = rw (lt-leb b n k) (part_long s a (a + (n + 1)) (omega arith) ∙ sym (part_long s a (a + b) (omega arith)))
+pub part_most : (s : List ℕ) (a b n : ℕ) → length s < n → part s a (min b n) ≡ part s a b
+part_most s a b n h = ⊎_elim
+    (λ k. part_long s a (min b n) (omega arith) ∙ sym (part_long s a b (omega arith)))
+    (λ k. let e : min b n ≡ b = omega arith in rw e)
+    (cases_lt n b)
 
-    no : b ≤ n → part s a (a + cond (leb b n) b (n + 1)) ≡ part s a (a + b)
-    no k = rw (le-leb b n k)
+-- also one that is added to the start
+pub part_sum : (s : List ℕ) (a b n : ℕ) → length s < n → part s a (min (a + min b n) n) ≡ part s a (a + b)
+part_sum s a b n h = let e : min (a + min b n) n ≡ min (a + b) n = omega arith in rw e (part_most s a (a + b) n h)
 
-pub part_whole : (s : List ℕ) (a b : ℕ) → part s a (cond (leb b (length s)) b (length s + 1)) ≡ part s a b
-part_whole s a b = ⊎_elim yes no (lt_or_le (length s) b)
-  where
-    yes : length s < b → part s a (cond (leb b (length s)) b (length s + 1)) ≡ part s a b
-    yes k = rw (lt-leb b (length s) k) (part_long s a (length s + 1) (omega arith) ∙ sym (part_long s a b k))
-
-    no : b ≤ length s → part s a (cond (leb b (length s)) b (length s + 1)) ≡ part s a b
-    no k = rw (le-leb b (length s) k)
-
-pub end_most : (b n : ℕ) → cond (leb b n) b (n + 1) ≤ n + 1
-end_most b n = ⊎_elim
-    (λ k. rw (lt-leb b n k) (omega arith))
-    (λ k. rw (le-leb b n k) (omega arith))
-    (lt_or_le n b)
+-- std's `get` answers a part
+pub part_got : (s : List ℕ) (a b : ℕ) (r : Option (Bor (List ℕ))) → IsGetRangeResult s a b r → Handed (part s a b) (ok_or r OffsetOutOfBounds)
+part_got s a b None h = ⊎_elim (λ k. sym (part_backward s a b k)) (λ k. sym (part_long s a b k)) h.0
+part_got s a b (Some x) h = let k = h.0 in rw (part_there s a b k.0 k.1) (ap got k.2)
 
 -- parts refuse with 19 alone
 abbrev pub Or19 : Answer (List ℕ) → Type 0
@@ -98,16 +93,7 @@ bytes_there h s k there =
 pub from_there : (h : UnitHeader) (u : List ℕ) (offset : ℕ) → length u ≡ unit_end h → in_bounds h offset ≡ true → range_from h u offset ≡ got (drop offset u)
 unfolding range_from in_bounds
 from_there h u offset l b =
-    let k = both (leb (size_of_header h) offset) (ltb offset (unit_end h)) b in
+    let k = and_parts (leb (size_of_header h) offset) (ltb offset (unit_end h)) b in
     let z = ltb-true offset (unit_end h) k.1 in
     let n : length (drop offset u) ≤ unit_end h - offset = rw (length-drop offset u) (omega (arith, l)) in
     rw (b, part_there u offset (unit_end h) (omega (arith, z)) (omega (arith, l)), take_all (unit_end h - offset) (drop offset u) n)
-
--- so the number beside a part is 0 where it was got
-pub handed_got : (d : Answer (List ℕ)) {r : List ℕ} {n : ℕ} → Or19 d → Handed d r n → n ≡ 0 → d ≡ got r
-handed_got (got s) o h z = ap got (sym h.part_is)
-handed_got (refused m) o h z = absurd (omega (arith, o, h.refusal_is, z))
-
-pub handed_none : (d : Answer (List ℕ)) {r : List ℕ} {n : ℕ} → Or19 d → Handed d r n → (n ≡ 0 → ⊥) → d ≡ refused 19
-handed_none (got s) o h z = absurd (z h.refusal_is)
-handed_none (refused m) o h z = ap refused o

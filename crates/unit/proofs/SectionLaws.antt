@@ -9,7 +9,8 @@ use borrow.Author.Tests.{eqb-true}
 use lib.Dec.{eqb, leb, ltb}
 use lib.ListN.{length, take}
 use Rattle.reader.specs.Answer.{Answer, got, refused, and_then, Read, Holds}
-use Rattle.reader.specs.Fields.{address_size_at, offset_at, is_address_size, word_size, Initial, long_length_at, initial_length_at, skip_at}
+use Rattle.reader.specs.Fields.{address_size_at, offset_at, is_address_size, word_size, long_length_at, initial_length_at, skip_at}
+use Rattle.reader.specs.declared.answer.Initial.{Initial}
 use Rattle.reader.specs.Sizes.{max_section}
 use Rattle.reader.specs.Words.{word_at}
 use Rattle.reader.specs.declared.common.Format.{Format}
@@ -17,9 +18,10 @@ use Rattle.reader.specs.declared.endianity.RunTimeEndian.{RunTimeEndian}
 use Rattle.reader.specs.declared.endianity.RunTimeEndian.TheVariants.{Little}
 use Rattle.reader.proofs.Answers.{holds_then, cond_by}
 use Rattle.unit.specs.Header.{type_number}
-use Rattle.unit.specs.Parse.{UnitSection, section_of, Common, signature_at, type_at, older_at, typed_at, newer_at, common_at, rest_at, body_at, header_at}
+use Rattle.unit.specs.Parse.{UnitSection, section_of, signature_at, type_at, older_at, typed_at, newer_at, common_at, rest_at, body_at, header_at}
 use Rattle.unit.specs.Units.{Advanced, advanced, next_unit, listed_by, list_within, unit_list}
 use Rattle.unit.specs.declared.header.UnitHeader.{UnitHeader}
+use Rattle.unit.specs.declared.parse.Common.{Common}
 use Rattle.unit.specs.declared.parse.SectionId.{SectionId}
 use Rattle.unit.specs.declared.parse.SectionId.TheVariants as section
 use Rattle.unit.proofs.ParseLaws.{judge_is, type_numbered}

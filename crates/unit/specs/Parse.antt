@@ -1,7 +1,8 @@
 -- A unit header read (DWARF 2 to 5, section 7.5.1). The section and the versions let in are parameters.
 use Rattle.std.specs.Prelude.{cond, ◌&&◌, List, ℕ, leb, eqb, length, take}
 use Rattle.reader.specs.Answer.{Answer, refused, and_then, Read, gives}
-use Rattle.reader.specs.Fields.{Initial, initial_length_at, address_size_at, offset_at, skip_at}
+use Rattle.reader.specs.declared.answer.Initial.{Initial}
+use Rattle.reader.specs.Fields.{initial_length_at, address_size_at, offset_at, skip_at}
 use Rattle.reader.specs.Sizes.{max_section}
 use Rattle.reader.specs.Words.{word_at}
 use Rattle.reader.specs.declared.common.Format.{Format}
@@ -10,6 +11,8 @@ use Rattle.reader.specs.declared.endianity.RunTimeEndian.TheVariants.{Little}
 use Rattle.unit.specs.declared.header.UnitHeader.{UnitHeader}
 use Rattle.unit.specs.declared.header.UnitType.{UnitType}
 use Rattle.unit.specs.declared.header.UnitType.TheVariants.{Compilation, «Type», Partial, Skeleton, SplitCompilation, SplitType}
+use Rattle.unit.specs.declared.parse.Common.{Common}
+use Rattle.unit.specs.declared.parse.Signature.{Signature}
 use Rattle.unit.specs.declared.parse.SectionId.{SectionId}
 use Rattle.unit.specs.declared.parse.SectionId.TheVariants as section
 
@@ -36,11 +39,6 @@ section_of section.DebugInfo = debug_info
 section_of section.DebugTypes = debug_types
 
 -- DWARF 4, 7.5.1.2; DWARF 5, 7.5.1.3: a type signature and the offset of the type in the unit
-pub record Signature : Type 0 where
-  pub signature : ℕ
-  pub offset : ℕ
-
--- the same read
 unfoldable pub signature_at : List ℕ → ℕ → Format → RunTimeEndian → Answer (Read Signature)
 signature_at s at f e =
     and_then (word_at s at 8 e)
@@ -56,12 +54,6 @@ type_at s at n f e =
     (cond (eqb n 5) (and_then (word_at s at 8 e) (λ r. gives (SplitCompilation r.value) r.next))
     (cond (eqb n 6) (and_then (signature_at s at f e) (λ r. gives (SplitType r.value.signature r.value.offset) r.next))
     (refused 8))))))
-
--- the offset of the table, the address width and the number of the unit type
-pub record Common : Type 0 where
-  pub table : ℕ
-  pub width : ℕ
-  pub number : ℕ
 
 -- DWARF 2 to 4, 7.5.1: table offset, address width
 unfoldable pub older_at : List ℕ → ℕ → ℕ → Format → RunTimeEndian → Answer (Read Common)

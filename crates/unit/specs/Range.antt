@@ -1,5 +1,9 @@
 -- Parts of a unit, handed back out of the caller's slice, or 19; 1 for a section that is too long.
-use Rattle.std.specs.Prelude.{cond, ◌&&◌, List, [], ◌≡◌, ℕ, ◌+◌, ◌-◌, leb, length, take, drop}
+use Rattle.std.specs.Prelude.{cond, ◌&&◌, List, ◌≡◌, ℕ, ◌+◌, ◌-◌, leb, length, take, drop}
+use Rattle.std.specs.Prelude.{Result}
+use Rattle.std.specs.Borrow.{Bor}
+use Rattle.reader.specs.declared.error.Error.{Error}
+use Rattle.reader.specs.Views.{view_by}
 use Rattle.reader.specs.Answer.{Answer, got, refused}
 use Rattle.reader.specs.Sizes.{max_section}
 use Rattle.unit.specs.Header.{size_of_header, unit_end, in_bounds}
@@ -9,18 +13,9 @@ use Rattle.unit.specs.declared.header.UnitHeader.{UnitHeader}
 unfoldable pub part : List ℕ → ℕ → ℕ → Answer (List ℕ)
 part s a b = cond (leb a b && leb b (length s)) (got (take (b - a) (drop a s))) (refused 19)
 
--- a part that is handed back, with 0 beside it; or none, with the refusal's number
-abbrev pub handed : Answer (List ℕ) → List ℕ
-handed (got xs) = xs
-handed (refused n) = []
-
-abbrev pub refusal_of : Answer (List ℕ) → ℕ
-refusal_of (got xs) = 0
-refusal_of (refused n) = n
-
-pub record Handed (d : Answer (List ℕ)) (r : List ℕ) (refusal : ℕ) : Type 0 where
-  pub part_is : r ≡ handed d
-  pub refusal_is : refusal ≡ refusal_of d
+-- a part that is handed back out of the caller's slice, or the refusal's number
+abbrev pub Handed : Answer (List ℕ) → Result (Bor (List ℕ)) Error → Type 0
+Handed d r = view_by (λ s. s.now) r ≡ d
 
 -- the unit's own bytes in its section, from its first length byte to its end; 01, question 1 is asked of the section
 unfoldable pub unit_bytes : UnitHeader → List ℕ → Answer (List ℕ)

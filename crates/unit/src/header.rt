@@ -1,13 +1,13 @@
 // A unit's header and its questions. Anybody can make one, so every question takes any header.
 
-ghost use Rattle.std.specs.Prelude.{◌≡◌, ◌≤◌};
-ghost use Rattle.unit.specs.Header.{type_size, size_of_header, length_including_self, in_bounds, tombstone};
-ghost use Rattle.unit.specs.Views.{view_length, view_verdict};
+ghost use Rattle.std.specs.Prelude.{◌≡◌, ◌-◌, ◌^◌, ◌≤◌, min};
+ghost use Rattle.reader.specs.Views.{view};
+ghost use Rattle.unit.specs.Header.{type_size, unit_end, size_of_header, length_including_self, in_bounds, tombstone};
 
 use reader::common::{Encoding, Format, MAX_SECTION};
 use reader::error::Error;
 
-#[derive(Clone, Copy)]
+#[derive(Clone, Copy, Debug, PartialEq, Eq)]
 pub enum UnitType {
     Compilation,
     // signature, and offset of the type in the unit
@@ -19,7 +19,7 @@ pub enum UnitType {
     SplitType(u64, u64),
 }
 
-#[derive(Clone, Copy)]
+#[derive(Clone, Copy, Debug, PartialEq, Eq)]
 pub struct UnitHeader {
     pub offset: usize,
     pub unit_length: u64,
@@ -28,30 +28,15 @@ pub struct UnitHeader {
     pub unit_type: UnitType,
 }
 
-#[derive(Clone, Copy)]
-pub enum Length {
-    Got(u64),
-    Refused(Error),
-}
-
-#[derive(Clone, Copy)]
-pub enum Verdict {
-    Got(bool),
-    Refused(Error),
-}
-
 // The bytes of what only this type of unit has.
 fn type_size(unit_type: UnitType, word_size: usize) -> usize
     requires { word_size ≤ 8 }
     ensures { result ≡ type_size unit_type word_size }
 {
     match unit_type {
-        UnitType::Compilation => 0,
-        UnitType::Type(_, _) => 8 + word_size,
-        UnitType::Partial => 0,
-        UnitType::Skeleton(_) => 8,
-        UnitType::SplitCompilation(_) => 8,
-        UnitType::SplitType(_, _) => 8 + word_size,
+        UnitType::Compilation | UnitType::Partial => 0,
+        UnitType::Skeleton(_) | UnitType::SplitCompilation(_) => 8,
+        UnitType::Type(_, _) | UnitType::SplitType(_, _) => 8 + word_size,
     }
 }
 
@@ -69,35 +54,39 @@ impl UnitHeader {
         self.unit_length
     }
 
-    // The bytes of the unit, its length word among them.
-    pub fn length_including_self(self) -> Length
-        ensures { view_length result ≡ length_including_self self }
+    // Where the unit ends, from its first byte; the largest number where that is past it.
+    pub fn end(self) -> usize
+        ensures { result ≡ min (unit_end self) (2 ^ 64 - 1) }
     {
-        let encoding = self.encoding;
-        let format = encoding.format;
-        let size = format.initial_length_size() as u64;
-        let length = self.unit_length;
-        let most = (MAX_SECTION as u64) - size;
-        if most < length {
-            return Length::Refused(Error::SizeLimit);
-        }
-        Length::Got(size + length)
+        let size = u64::from(self.encoding.format.initial_length_size());
+        size.saturating_add(self.unit_length) as usize
     }
 
+    // The bytes of the unit, its length word among them.
+    #[tactic(auto, unfolding(crate::specs::Header::length_including_self))]
+    pub fn length_including_self(self) -> Result<u64, Error>
+        ensures { view result ≡ length_including_self self }
+    {
+        let end = self.end();
+        if MAX_SECTION < end {
+            return Err(Error::SizeLimit);
+        }
+        Ok(end as u64)
+    }
+
+    #[tactic(auto, unfolding(crate::specs::Header::size_of_header))]
     pub fn size_of_header(self) -> usize
         ensures { result ≡ size_of_header self }
     {
-        let encoding = self.encoding;
-        let format = encoding.format;
-        let version = encoding.version;
-        let word_size = format.word_size() as usize;
-        let unit_type = self.unit_type;
-        let own = type_size(unit_type, word_size);
-        let size = (format.initial_length_size() as usize) + 3 + word_size + own;
-        if version == 5 {
-            return size + 1;
-        }
-        size
+        let Encoding {
+            format,
+            version,
+            ..
+        } = self.encoding;
+        let word_size = usize::from(format.word_size());
+        let own = type_size(self.unit_type, word_size);
+        let type_byte = usize::from(version == 5);
+        usize::from(format.initial_length_size()) + 3 + word_size + own + type_byte
     }
 
     // Where the entries start.
@@ -122,22 +111,19 @@ impl UnitHeader {
     pub fn version(self) -> u16
         ensures { result ≡ self.encoding.version }
     {
-        let encoding = self.encoding;
-        encoding.version
+        self.encoding.version
     }
 
     pub fn format(self) -> Format
         ensures { result ≡ self.encoding.format }
     {
-        let encoding = self.encoding;
-        encoding.format
+        self.encoding.format
     }
 
     pub fn address_size(self) -> u8
         ensures { result ≡ self.encoding.address_size }
     {
-        let encoding = self.encoding;
-        encoding.address_size
+        self.encoding.address_size
     }
 
     pub fn type_(self) -> UnitType
@@ -153,33 +139,25 @@ impl UnitHeader {
     }
 
     // Whether an entry's offset lies among the entries.
+    #[tactic(auto, unfolding(crate::specs::Header::in_bounds, crate::specs::Header::size_of_header))]
     pub fn is_in_bounds(self, offset: usize) -> bool
         ensures { result ≡ in_bounds self offset }
     {
-        let encoding = self.encoding;
-        let format = encoding.format;
-        let length = self.unit_length;
-        let size = self.size_of_header();
-        let initial = format.initial_length_size() as usize;
-        if offset < size {
-            return false;
-        }
-        let rest = (offset - initial) as u64;
-        rest < length
+        let initial = usize::from(self.encoding.format.initial_length_size());
+        self.size_of_header() <= offset && ((offset - initial) as u64) < self.unit_length
     }
 
     // Whether an address is -2 of the unit's width or above it.
-    pub fn is_tombstone_address(self, address: u64) -> Verdict
-        ensures { view_verdict result ≡ tombstone self address }
+    #[tactic(auto, unfolding(crate::specs::Header::tombstone, reader::specs::Fields::is_address_size))]
+    pub fn is_tombstone_address(self, address: u64) -> Result<bool, Error>
+        ensures { view result ≡ tombstone self address }
     {
-        let encoding = self.encoding;
-        let width = encoding.address_size;
-        match width {
-            1 => Verdict::Got(0xfe <= address),
-            2 => Verdict::Got(0xfffe <= address),
-            4 => Verdict::Got(0xffff_fffe <= address),
-            8 => Verdict::Got(0xffff_ffff_ffff_fffe <= address),
-            _ => Verdict::Refused(Error::UnsupportedAddressSize),
+        match self.encoding.address_size {
+            1 => Ok(0xfe <= address),
+            2 => Ok(0xfffe <= address),
+            4 => Ok(0xffff_fffe <= address),
+            8 => Ok(0xffff_ffff_ffff_fffe <= address),
+            _ => Err(Error::UnsupportedAddressSize),
         }
     }
 }

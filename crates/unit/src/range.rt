@@ -1,118 +1,70 @@
-// Parts of a unit, handed back out of the caller's slice. The number beside a part is 0; where there is
-// none it is 19, or 1 beside a section that is too long.
+// Parts of a unit, handed back out of the caller's slice: `OffsetOutOfBounds` where there is none, and
+// `SizeLimit` for a section that is too long.
 
-ghost use Rattle.std.specs.Prelude.{cond, ◌≡◌, ◌+◌, ◌^◌, ◌<◌, leb};
-ghost use Rattle.reader.specs.Answer.{refused};
-ghost use Rattle.unit.specs.Header.{unit_end};
 ghost use Rattle.unit.specs.Range.{Handed, part, unit_bytes, entries_buf, range_of, range_from, range_to};
 
 use super::header::UnitHeader;
 use reader::common::MAX_SECTION;
-
-// Refused.
-fn none<'a, 'b>(bytes: &'a [u8], number: u64, refusal: &'b mut u64) -> &'a [u8]
-    ensures { Handed (refused number) result.now refusal.new }
-{
-    *refusal = number;
-    &bytes[0..0]
-}
+use reader::error::Error;
 
 // The bytes from `from` up to `to`.
-pub fn part<'a, 'b>(bytes: &'a [u8], from: usize, to: usize, refusal: &'b mut u64) -> &'a [u8]
-    ensures { Handed (part bytes.now from to) result.now refusal.new }
+#[tactic(auto, using(crate::proofs::RangeLaws::part_got))]
+pub fn part(bytes: &[u8], from: usize, to: usize) -> Result<&[u8], Error>
+    ensures { Handed (part bytes.now from to) result }
 {
-    if to < from {
-        return none(bytes, 19, refusal);
-    }
-    if bytes.len() < to {
-        return none(bytes, 19, refusal);
-    }
-    *refusal = 0;
-    &bytes[from..to]
-}
-
-// Where the unit ends, from its first byte; `most` and 1 more where that is past `most`.
-fn end_within(header: UnitHeader, most: usize) -> usize
-    requires { most < 2 ^ 63 }
-    ensures { result ≡ cond (leb (unit_end header) most) (unit_end header) (most + 1) }
-{
-    let encoding = header.encoding;
-    let format = encoding.format;
-    let length = header.unit_length;
-    let size = format.initial_length_size() as u64;
-    let whole = most as u64;
-    if whole < length {
-        return most + 1;
-    }
-    if whole - length < size {
-        return most + 1;
-    }
-    (size + length) as usize
+    bytes.get(from..to).ok_or(Error::OffsetOutOfBounds)
 }
 
 impl UnitHeader {
     // The unit's own bytes, from its first length byte on.
-    pub fn bytes<'a, 'b>(self, section: &'a [u8], refusal: &'b mut u64) -> &'a [u8]
-        ensures { Handed (unit_bytes self section.now) result.now refusal.new }
+    #[tactic(auto, using(crate::proofs::RangeLaws::part_sum), unfolding(crate::specs::Range::unit_bytes))]
+    pub fn bytes(self, section: &[u8]) -> Result<&[u8], Error>
+        ensures { Handed (unit_bytes self section.now) result }
     {
         if MAX_SECTION < section.len() {
-            return none(section, 1, refusal);
+            return Err(Error::SizeLimit);
         }
-        let offset = self.offset;
-        if section.len() < offset {
-            return none(section, 19, refusal);
-        }
-        let end = offset + end_within(self, section.len() - offset);
-        part(section, offset, end, refusal)
+        part(section, self.offset, self.offset.saturating_add(self.end()))
     }
 
     // gimli's `entries_buf`, out of the unit's own bytes: empty where the header is the whole unit.
-    pub fn entries_buf<'a, 'b>(self, unit: &'a [u8], refusal: &'b mut u64) -> &'a [u8]
-        ensures { Handed (entries_buf self unit.now) result.now refusal.new }
+    #[tactic(auto, using(crate::proofs::RangeLaws::part_most), unfolding(crate::specs::Range::entries_buf))]
+    pub fn entries_buf(self, unit: &[u8]) -> Result<&[u8], Error>
+        ensures { Handed (entries_buf self unit.now) result }
     {
-        let start = self.size_of_header();
-        let end = end_within(self, unit.len());
-        part(unit, start, end, refusal)
+        part(unit, self.size_of_header(), self.end())
     }
 
     // The entries from `start` up to `end`, offsets in the unit, out of the unit's own bytes.
-    pub fn range<'a, 'b>(
-        self,
-        unit: &'a [u8],
-        start: usize,
-        end: usize,
-        refusal: &'b mut u64,
-    ) -> &'a [u8]
-        ensures { Handed (range_of self unit.now start end) result.now refusal.new }
+    #[tactic(auto, unfolding(crate::specs::Range::range_of))]
+    pub fn range(self, unit: &[u8], start: usize, end: usize) -> Result<&[u8], Error>
+        ensures { Handed (range_of self unit.now start end) result }
     {
-        if self.is_in_bounds(start) {
-            if self.is_in_bounds(end) {
-                return part(unit, start, end, refusal);
-            }
-            return none(unit, 19, refusal);
+        if !self.is_in_bounds(start) || !self.is_in_bounds(end) {
+            return Err(Error::OffsetOutOfBounds);
         }
-        none(unit, 19, refusal)
+        part(unit, start, end)
     }
 
     // The entries from `start` on.
-    pub fn range_from<'a, 'b>(self, unit: &'a [u8], start: usize, refusal: &'b mut u64) -> &'a [u8]
-        ensures { Handed (range_from self unit.now start) result.now refusal.new }
+    #[tactic(auto, using(crate::proofs::RangeLaws::part_most), unfolding(crate::specs::Range::range_from))]
+    pub fn range_from(self, unit: &[u8], start: usize) -> Result<&[u8], Error>
+        ensures { Handed (range_from self unit.now start) result }
     {
-        if self.is_in_bounds(start) {
-            let end = end_within(self, unit.len());
-            return part(unit, start, end, refusal);
+        if !self.is_in_bounds(start) {
+            return Err(Error::OffsetOutOfBounds);
         }
-        none(unit, 19, refusal)
+        part(unit, start, self.end())
     }
 
     // The entries up to `end`.
-    pub fn range_to<'a, 'b>(self, unit: &'a [u8], end: usize, refusal: &'b mut u64) -> &'a [u8]
-        ensures { Handed (range_to self unit.now end) result.now refusal.new }
+    #[tactic(auto, unfolding(crate::specs::Range::range_to))]
+    pub fn range_to(self, unit: &[u8], end: usize) -> Result<&[u8], Error>
+        ensures { Handed (range_to self unit.now end) result }
     {
-        if self.is_in_bounds(end) {
-            let start = self.size_of_header();
-            return part(unit, start, end, refusal);
+        if !self.is_in_bounds(end) {
+            return Err(Error::OffsetOutOfBounds);
         }
-        none(unit, 19, refusal)
+        part(unit, self.size_of_header(), end)
     }
 }
