@@ -1,23 +1,25 @@
 -- Laws of forms: what a test of every row says of each form, and the table of sizes.
 use mathlib.Core.Bool.{Bool, true, false, cond, not, ◌&&◌, ◌||◌}
-use mathlib.Core.Logic.{⊎_elim}
-use mathlib.Core.Path.{◌≡◌, refl, sym}
-use mathlib.Core.List.{List, [], ◌∷◌}
-use mathlib.Core.Option.{none}
-use Prim.Native.Nat.{ℕ, zero, suc, ◌+◌, ◌-◌, ◌*◌, ◌^◌, ◌≤◌, ◌<◌}
+use mathlib.Core.Path.{◌≡◌, refl, sym, ◌∙◌}
+use mathlib.Core.List.{List, [], ◌∷◌, map}
+use mathlib.Core.Option.{none, some}
+use Prim.Native.Nat.{ℕ, ◌+◌, ◌-◌, ◌≤◌, ◌<◌}
 use native.Mathlib.Omega.{arith}
 use borrow.Author.Tests.{eqb-true, ne_eqb, leb-true, lt-ltb, le-ltb}
 use lib.Dec.{eqb, leb, ltb}
-use lib.ListN.{length, get_or}
-use lib.Pow.{pow_mono}
-use Rattle.reader.specs.Fields.{is_address_size, word_size}
-use Rattle.reader.proofs.Numbers.{lt_or_le}
+use lib.ListN.{get_or, replicate}
+use Rattle.std.specs.Prelude.{Some, None}
+use Rattle.std.specs.Prelude as code
+use Rattle.std.specs.List.{range_with_len}
+use Rattle.std.proofs.lemmas.List.{get_or-replicate}
+use Rattle.std.proofs.lemmas.List.FromFn.{get_or-map-range_with_len}
+use Rattle.reader.specs.Fields.{word_size}
 use Rattle.reader.specs.declared.common.Encoding.{Encoding}
 use Rattle.reader.specs.declared.common.Format.{Format}
 use Rattle.reader.specs.declared.common.Format.TheVariants.{Dwarf32, Dwarf64}
 use Rattle.attribute.specs.Forms.{Form, form, forms, row_of, row_in, row, case_of}
 use Rattle.attribute.specs.Skip.{ending_of, size_of, attribute_size}
-use Rattle.attribute.specs.Steps.{width_by, is_wide, Fits, Extends, class_of, class_size}
+use Rattle.attribute.specs.Steps.{width_by, is_wide}
 use Rattle.attribute.specs.Value.{allow_section_offset, is_section_offset}
 use Rattle.attribute.specs.declared.form.Kind.{Kind}
 use Rattle.attribute.specs.declared.form.Kind.TheVariants as K
@@ -25,13 +27,12 @@ use Rattle.attribute.specs.declared.form.Layout.{Layout}
 use Rattle.attribute.specs.declared.form.Layout.TheVariants as L
 use Rattle.attribute.specs.declared.form.Row.{Row}
 use Rattle.attribute.specs.declared.form.Sort.{Sort}
-use Rattle.attribute.specs.declared.form.Sort.TheVariants as S
 
 -- both of two tests
 pub both : (a b : Bool) → a && b ≡ true → (a ≡ true) × (b ≡ true)
 both true true e = (refl, refl)
-both true false e = let z : ◌≡◌ {A = ℕ} 0 1 = cc in absurd (omega arith)
-both false b e = let z : ◌≡◌ {A = ℕ} 0 1 = cc in absurd (omega arith)
+both true false e = absurd (cc)
+both false b e = absurd (cc)
 
 -- a test of each row
 unfoldable every : (Row → Bool) → List Form → Bool
@@ -118,59 +119,84 @@ pub indirect_open : (c : Encoding) → attribute_size 0x16 c ≡ none
 unfolding attribute_size row row_in forms ending_of
 indirect_open c = refl
 
--- a class is a layout's size
-pub class_size_lem : (c : Encoding) (l : Layout) → class_size (class_of l) c ≡ size_of (ending_of c l)
+-- the size that a layout has in every unit
+abbrev pub fixed_of : Layout → code.Option ℕ
+fixed_of L.U8 = Some 1
+fixed_of L.U16 = Some 2
+fixed_of L.U24 = Some 3
+fixed_of L.U32 = Some 4
+fixed_of L.U64 = Some 8
+fixed_of L.U128 = Some 16
+fixed_of L.Offset = None
+fixed_of L.Address = None
+fixed_of L.RefAddr = None
+fixed_of L.Uleb128 = None
+fixed_of L.Sleb128 = None
+fixed_of L.Block1 = None
+fixed_of L.Block2 = None
+fixed_of L.Block4 = None
+fixed_of L.Block = None
+fixed_of L.NullTerminated = None
+fixed_of L.Present = Some 0
+fixed_of L.ImplicitConst = Some 0
+fixed_of L.Unknown = None
+
+pub fixed_size : (c : Encoding) (l : Layout) (n : ℕ) → fixed_of l ≡ Some n → size_of (ending_of c l) ≡ some n
 unfolding ending_of
-class_size_lem c L.U8 = refl
-class_size_lem c L.U16 = refl
-class_size_lem c L.U24 = refl
-class_size_lem c L.U32 = refl
-class_size_lem c L.U64 = refl
-class_size_lem c L.U128 = refl
-class_size_lem c L.Offset = refl
-class_size_lem c L.Address = refl
-class_size_lem c L.RefAddr = refl
-class_size_lem c L.Uleb128 = refl
-class_size_lem c L.Sleb128 = refl
-class_size_lem c L.Block1 = refl
-class_size_lem c L.Block2 = refl
-class_size_lem c L.Block4 = refl
-class_size_lem c L.Block = refl
-class_size_lem c L.NullTerminated = refl
-class_size_lem c L.Present = refl
-class_size_lem c L.ImplicitConst = refl
-class_size_lem c L.Unknown = refl
-
--- a test of each element and its place, counted from i
-abbrev every_at : (ℕ → ℕ → Bool) → ℕ → List ℕ → Bool
-every_at P i [] = true
-every_at P i (x ∷ xs) = P i x && every_at P (suc i) xs
-
-at_place : (P : ℕ → ℕ → Bool) (xs : List ℕ) (i k : ℕ) → every_at P i xs ≡ true → k < length xs → P (i + k) (get_or xs k 0) ≡ true
-at_place P [] i k h l = absurd (omega arith)
-at_place P (x ∷ xs) i zero h l =
-    let e : i + 0 ≡ i = omega arith in
-    rw e (both (P i x) (every_at P (suc i) xs) h).0
-at_place P (x ∷ xs) i (suc k) h l =
-    let e : suc i + k ≡ i + suc k = omega arith in
-    rw e at (at_place P xs (suc i) k (both (P i x) (every_at P (suc i) xs) h).1 (omega arith))
+fixed_size c L.U8 n h = cc
+fixed_size c L.U16 n h = cc
+fixed_size c L.U24 n h = cc
+fixed_size c L.U32 n h = cc
+fixed_size c L.U64 n h = cc
+fixed_size c L.U128 n h = cc
+fixed_size c L.Offset n h = cc
+fixed_size c L.Address n h = cc
+fixed_size c L.RefAddr n h = cc
+fixed_size c L.Uleb128 n h = cc
+fixed_size c L.Sleb128 n h = cc
+fixed_size c L.Block1 n h = cc
+fixed_size c L.Block2 n h = cc
+fixed_size c L.Block4 n h = cc
+fixed_size c L.Block n h = cc
+fixed_size c L.NullTerminated n h = cc
+fixed_size c L.Present n h = cc
+fixed_size c L.ImplicitConst n h = cc
+fixed_size c L.Unknown n h = cc
 
 -- the code's table
-unfoldable pub sizes : List ℕ
-sizes = 20 ∷ 18 ∷ 20 ∷ 20 ∷ 20 ∷ 2 ∷ 4 ∷ 8 ∷ 20 ∷ 20 ∷ 20 ∷ 1 ∷ 1 ∷ 20 ∷ 17 ∷ 20 ∷ 19 ∷ 1 ∷ 2 ∷ 4 ∷ 8 ∷ 20 ∷ 20 ∷ 17 ∷ 20 ∷ 0 ∷ 20 ∷ 20 ∷ 4 ∷ 17 ∷ 16 ∷ 17 ∷ 8 ∷ 0 ∷ 20 ∷ 20 ∷ 8 ∷ 1 ∷ 2 ∷ 3 ∷ 4 ∷ 1 ∷ 2 ∷ 3 ∷ 4 ∷ 20 ∷ 20 ∷ 20 ∷ 20 ∷ 20 ∷ 20 ∷ 20 ∷ 20 ∷ 20 ∷ 20 ∷ 20 ∷ 20 ∷ 20 ∷ 20 ∷ 20 ∷ 20 ∷ 20 ∷ 20 ∷ 20 ∷ 20 ∷ 20 ∷ 20 ∷ 20 ∷ 20 ∷ 20 ∷ 20 ∷ 20 ∷ 20 ∷ 20 ∷ 20 ∷ 20 ∷ 20 ∷ 17 ∷ 17 ∷ []
+unfoldable pub sizes : List (code.Option ℕ)
+sizes = None ∷ None ∷ None ∷ None ∷ None ∷ Some 2 ∷ Some 4 ∷ Some 8 ∷ None ∷ None ∷ None ∷ Some 1 ∷ Some 1 ∷ None ∷ None ∷ None ∷ None ∷ Some 1 ∷ Some 2 ∷ Some 4 ∷ Some 8 ∷ None ∷ None ∷ None ∷ None ∷ Some 0 ∷ None ∷ None ∷ Some 4 ∷ None ∷ Some 16 ∷ None ∷ Some 8 ∷ Some 0 ∷ None ∷ None ∷ Some 8 ∷ Some 1 ∷ Some 2 ∷ Some 3 ∷ Some 4 ∷ Some 1 ∷ Some 2 ∷ Some 3 ∷ Some 4 ∷ []
 
--- the form whose class stands at a place
-abbrev form_of : ℕ → ℕ
-form_of k = cond (ltb k 0x2d) k (k - 0x2d + 0x1f00)
+-- has the size of each form, all of them computed
+sizes_is : sizes ≡ map (λ k. fixed_of (row k).layout) (range_with_len 0 45)
+unfolding sizes row row_in forms
+sizes_is = refl
 
-sized : ℕ → ℕ → Bool
-sized k x = eqb x (class_of (row (form_of k)).layout)
+pub size_at : (k : ℕ) (d : code.Option ℕ) → k < 45 → get_or sizes k d ≡ fixed_of (row k).layout
+size_at k d h = rw sizes_is (get_or-map-range_with_len (λ k. fixed_of (row k).layout) 0 45 k k d h (omega arith))
 
-pub size_at : (k : ℕ) → k < 79 → get_or sizes k 0 ≡ class_of (row (cond (ltb k 0x2d) k (k - 0x2d + 0x1f00))).layout
-unfolding sizes sized row row_in forms
-size_at k h = let e : 0 + k ≡ k = omega arith in eqb-true _ _ (rw e at (at_place sized sizes 0 k refl h))
+-- a law of each number of a range, from what it is computed to be of all of them
+same_all : {X : Type 0} (f : ℕ → X) (a n : ℕ) (x : X) (k : ℕ) → map f (range_with_len a n) ≡ replicate n x → a ≤ k → k < a + n → f k ≡ x
+same_all f a n x k h l u =
+    let i : k - a < n = omega arith in
+    sym (get_or-map-range_with_len f a n (k - a) k x i (omega arith)) ∙ rw h (get_or-replicate n (k - a) x x i)
 
--- no form lies outside of it
+-- none of GNU's forms has the same size in every unit
+pub gnu_fixed : (k : ℕ) → 0x1f00 ≤ k → k < 0x1f22 → fixed_of (row k).layout ≡ None
+unfolding row row_in forms
+gnu_fixed k l u = same_all (λ k. fixed_of (row k).layout) 0x1f00 0x22 None k refl l (omega arith)
+
+-- and before 0x1f20 none has a size at all
+pub gnu_open : (c : Encoding) (k : ℕ) → 0x1f00 ≤ k → k < 0x1f20 → attribute_size k c ≡ none
+unfolding attribute_size row row_in forms ending_of
+gnu_open c k l u = same_all (λ k. attribute_size k c) 0x1f00 0x20 none k refl l (omega arith)
+
+-- DW_FORM_GNU_ref_alt and DW_FORM_GNU_strp_alt have that of an offset
+pub gnu_offset : (c : Encoding) (k : ℕ) → 0x1f20 ≤ k → k < 0x1f22 → attribute_size k c ≡ some (word_size c.format)
+unfolding attribute_size row row_in forms ending_of
+gnu_offset c k l u = same_all (λ k. attribute_size k c) 0x1f20 2 (some (word_size c.format)) k refl l (omega arith)
+
+-- the forms that neither the table nor GNU's range has
 outside : ℕ → Bool
 outside f = not (ltb f 0x2d) && (ltb f 0x1f00 || not (ltb f 0x1f22))
 
@@ -192,68 +218,17 @@ no_row f (form code l m ∷ rest) h k =
     let b = both (not (outside code)) (inside_codes rest) k in
     rw (differ f code h b.0) (no_row f rest h b.1)
 
-no_form : (f : ℕ) → outside f ≡ true → class_of (row f).layout ≡ 20
+no_form : (f : ℕ) → outside f ≡ true → row f ≡ row_of L.Unknown K.Udata
 unfolding row forms inside_codes outside
-no_form f h = rw (no_row f forms h refl)
+no_form f h = no_row f forms h refl
 
-pub between : (f : ℕ) → 0x2d ≤ f → f < 0x1f00 → class_of (row f).layout ≡ 20
+pub between : (f : ℕ) → 0x2d ≤ f → f < 0x1f00 → row f ≡ row_of L.Unknown K.Udata
 unfolding outside
 between f a b = no_form f (rw (le-ltb f 0x2d a, lt-ltb f 0x1f00 b))
 
-pub above : (f : ℕ) → 0x1f22 ≤ f → class_of (row f).layout ≡ 20
+pub above : (f : ℕ) → 0x1f22 ≤ f → row f ≡ row_of L.Unknown K.Udata
 unfolding outside
 above f a = no_form f (rw (le-ltb f 0x2d (omega arith), le-ltb f 0x1f00 (omega arith), le-ltb f 0x1f22 a))
-
--- constants have 1, 2, 4 or 8 bytes
-abbrev constant_size : Sort → Bool
-constant_size (S.Constant n) = is_address_size n
-constant_size S.Unsigned = true
-constant_size S.Signed = true
-constant_size S.Flag = true
-constant_size S.Halves = true
-constant_size S.Span = true
-constant_size S.String = true
-constant_size S.Offset = true
-constant_size S.Other = true
-
-kind_size : (k : Kind) → constant_size (case_of k).sort ≡ true
-unfolding is_address_size
-kind_size K.Addr = refl
-kind_size K.Block = refl
-kind_size K.Data1 = refl
-kind_size K.Data2 = refl
-kind_size K.Data4 = refl
-kind_size K.Data8 = refl
-kind_size K.Data16 = refl
-kind_size K.Sdata = refl
-kind_size K.Udata = refl
-kind_size K.Exprloc = refl
-kind_size K.Flag = refl
-kind_size K.SecOffset = refl
-kind_size K.DebugAddrIndex = refl
-kind_size K.UnitRef = refl
-kind_size K.DebugInfoRef = refl
-kind_size K.DebugInfoRefSup = refl
-kind_size K.DebugLocListsIndex = refl
-kind_size K.DebugRngListsIndex = refl
-kind_size K.DebugTypesRef = refl
-kind_size K.DebugStrRef = refl
-kind_size K.DebugStrRefSup = refl
-kind_size K.DebugStrOffsetsIndex = refl
-kind_size K.DebugLineStrRef = refl
-kind_size K.String = refl
-
-pub extends : (k : Kind) (n low high : ℕ) → (case_of k).sort ≡ S.Constant n → Fits k low high → low < 2 ^ 64 → Extends n low
-extends k n low high e f b =
-    record {
-      is = rw e at (kind_size k);
-      narrow = ⊎_elim (λ l. rw e at f.narrow l) (λ l. let p = pow_mono {i = 64} {j = 8 * n} (omega arith) in omega arith) (lt_or_le n 8);
-    }
-
--- a width that is none of the smaller ones
-pub widest : (n : ℕ) → is_address_size n ≡ true → (n ≡ 1 → ⊥) → (n ≡ 2 → ⊥) → (n ≡ 4 → ⊥) → n ≡ 8
-unfolding is_address_size
-widest n h a b c = eqb-true n 8 (rw (ne_eqb n 1 a, ne_eqb n 2 b, ne_eqb n 4 c) at h)
 
 -- a constant of fewer bytes is no offset into a section
 pub no_offset : (c : Encoding) (name n : ℕ) → n < 4 → is_section_offset c name n ≡ false
@@ -265,7 +240,7 @@ no_offset c name n h = go c.format
     go Dwarf64 = rw (ne_eqb n 8 (λ e. omega (arith, e)))
 
 pub true_false : true ≡ false → ⊥
-true_false e = let z : ◌≡◌ {A = ℕ} 0 1 = cc in omega arith
+true_false e = cc
 
 -- a flag's bit
 pub flag_of : (n : ℕ) → ◌≡◌ {A = ℕ} (cond (not (eqb n 0)) 1 0) (cond (eqb n 0) 0 1)

@@ -5,9 +5,10 @@ use mathlib.Core.List.{List, [], ◌∷◌, ◌++◌, map, append_assoc, append-
 use Prim.Native.Nat.{ℕ, zero, suc, ◌+◌, ◌*◌, ◌^◌, ◌≤◌, ◌<◌}
 use native.Mathlib.Omega.{arith}
 use native.Mathlib.Numerals.{add-one}
-use lib.ListN.{length, get_or, set, drop, replicate, length-append, length-map, drop_of_length-le}
+use lib.ListN.{length, get_or, set, drop, replicate, length-append, drop_of_length-le}
 use lib.Seq.{drop-cons}
-use borrow.Author.Tests.{le-leb, lt-ltb, leb-true, ltb-true}
+use Rattle.std.proofs.lemmas.List.{map-set}
+use borrow.Author.Tests.{le-leb, lt-ltb, leb-true}
 use lib.Dec.{leb, ltb}
 use Rattle.reader.specs.Answer.{Answer, got, refused, and_then, Read, gives, end_of, Holds}
 use Rattle.reader.specs.Fields.{skip_at}
@@ -16,20 +17,20 @@ use Rattle.reader.specs.declared.endianity.RunTimeEndian.{RunTimeEndian}
 use Rattle.reader.proofs.Answers.{then_then, then_got, holds_map}
 use Rattle.reader.proofs.FieldLaws.{skip_there}
 use Rattle.abbrev.specs.Lookup.{Found, spec_at, specs_from, fair, keeps_sizes, declaration_of}
-use Rattle.abbrev.specs.Table.{Specification, entry_limit}
-use Rattle.abbrev.proofs.Lookups.{length_specs, specs_nth, spec_drop, fair_nth, kept}
+use Rattle.abbrev.specs.Table.{Specification}
+use Rattle.abbrev.proofs.Lookups.{length_specs, specs_nth, spec_drop, fair_nth}
 use Rattle.attribute.specs.Attributes.{keeps_place, read_attributes, skip_attributes, filler, pad}
 use Rattle.attribute.specs.Padded.{any_padded}
 use Rattle.attribute.specs.Read.{form_at, attribute, numbers_at, attribute_at, attributes_at}
 use Rattle.attribute.specs.Skip.{past_value, past_values}
-use Rattle.attribute.specs.Steps.{Within, Listed}
+use Rattle.attribute.specs.Steps.{Listed}
 use Rattle.attribute.specs.Value.{Attribute, value_under}
 use Rattle.attribute.specs.Views.{view_attribute}
 use Rattle.attribute.specs.declared.value.Attribute as declared_attribute
 use Rattle.attribute.specs.declared.value.Value.{Value}
 use Rattle.attribute.specs.declared.value.AttributeValue.TheVariants.{Flag}
 use Rattle.attribute.proofs.FormLaws.{both}
-use Rattle.attribute.proofs.ReadLaws.{Onward, Past, form_past, attributes_past}
+use Rattle.attribute.proofs.ReadLaws.{Onward, Past, form_past, attribute_past, attributes_past}
 
 -- the specifications from the i-th on
 pub next_spec : (count : ℕ) (l : List ℕ) (i : ℕ) → i < count → drop i (specs_from count l) ≡ spec_at l (i * 3) ∷ drop (i + 1) (specs_from count l)
@@ -52,22 +53,11 @@ unfolding pad
 pad_none zero a q = refl
 pad_none (suc n) a q = ap (λ (x : Attribute). x ∷ map view_attribute (replicate n a)) q ∙ ap (λ (l : List Attribute). filler ∷ l) (pad_none n a q)
 
-length_pad : (n : ℕ) (xs : List Attribute) → length (pad n xs) ≡ n
-unfolding pad
-length_pad zero xs = refl
-length_pad (suc n) [] = ap suc (length_pad n [])
-length_pad (suc n) (x ∷ xs) = ap suc (length_pad n xs)
-
 set_pad : (n : ℕ) (xs : List Attribute) (a : Attribute) → length xs < n → set (pad n xs) (length xs) a ≡ pad n (xs ++ (a ∷ []))
 unfolding pad
 set_pad zero xs a h = absurd (omega arith)
 set_pad (suc n) [] a h = refl
 set_pad (suc n) (x ∷ xs) a h = ap (λ (l : List Attribute). x ∷ l) (set_pad n xs a (omega arith))
-
-map_set : {A B : Type 0} (f : A → B) (l : List A) (i : ℕ) (y : A) → map f (set l i y) ≡ set (map f l) i (f y)
-map_set f [] i y = refl
-map_set f (x ∷ xs) zero y = refl
-map_set {B = B} f (x ∷ xs) (suc i) y = ap (λ (l : List B). f x ∷ l) (map_set f xs i y)
 
 -- attributes before those of an answer
 abbrev before : List Attribute → Answer (Read (List Attribute)) → Answer (Read (List Attribute))
@@ -95,28 +85,23 @@ kept_begun n s start c e count l at h a q =
 
 module _ {n : ℕ} {s : List ℕ} {start : ℕ} {c : Encoding} {e : RunTimeEndian} {count : ℕ} {l : List ℕ} {at : ℕ} {attrs : List declared_attribute.Attribute} {i p : ℕ}
     (t : Kept n s start c e count l at attrs i p) where
-  pub kept_size : length attrs ≡ n
-  kept_size = sym (length-map attrs view_attribute) ∙ ap length t.is ∙ length_pad n t.vs
-
   module _ (h : i < count) {x : Specification} (q : x ≡ spec_at l (i * 3)) where
-    pub kept_more : count ≤ n → {w : Value} {r : ℕ} → form_at s start c e x p ≡ gives w r → (a : declared_attribute.Attribute) → view_attribute a ≡ attribute x (any_padded s (numbers_at s x.form p)) (value_under c x.name w)
-        → Kept n s start c e count l at (set attrs i a) (i + 1) r
-    unfolding attributes_at attribute_at
-    kept_more m {w} {r} f a v =
-        let g = rw f at (form_past s start c e x p t.inside) in
+    pub kept_more : count ≤ n → {r : ℕ} (a : declared_attribute.Attribute) → gives (view_attribute a) r ≡ attribute_at s start c e x p → Kept n s start c e count l at (set attrs i a) (i + 1) r
+    unfolding attributes_at
+    kept_more m {r} a f =
+        let g = rw (← f) at (attribute_past s start c e x p t.inside) in
         let more = attributes_at s start c e (drop (i + 1) (specs_from count l)) r in
-        let d : drop i (specs_from count l) ≡ x ∷ drop (i + 1) (specs_from count l) = next_spec count l i h ∙ ap (λ (y : Specification). y ∷ drop (i + 1) (specs_from count l)) (sym q) in
         record {
           vs = t.vs ++ (view_attribute a ∷ []);
-          is = map_set view_attribute attrs i a ∙ ap (λ (y : List Attribute). set y i (view_attribute a)) t.is ∙ rw t.len at (set_pad n t.vs (view_attribute a) (omega (arith, t.len)));
+          is = map-set view_attribute attrs i a ∙ ap (λ (y : List Attribute). set y i (view_attribute a)) t.is ∙ rw t.len at (set_pad n t.vs (view_attribute a) (omega (arith, t.len)));
           len = length-append t.vs (view_attribute a ∷ []) ∙ ap (λ (k : ℕ). k + 1) t.len;
           inside = g.ahead.within;
-          rest = t.rest ∙ rw (d, f) (before_more t.vs (attribute x (any_padded s (numbers_at s x.form p)) (value_under c x.name w)) more ∙ ap (λ (b : Attribute). before (t.vs ++ (b ∷ [])) more) (sym v));
+          rest = t.rest ∙ rw (next_spec count l i h, ← q, ← f) (before_more t.vs (view_attribute a) more);
         }
 
-    pub kept_stop : {k : ℕ} → form_at s start c e x p ≡ refused k → attributes_at s start c e (specs_from count l) at ≡ refused k
-    unfolding attributes_at attribute_at
-    kept_stop f = t.rest ∙ rw (next_spec count l i h, ← q, f)
+    pub kept_stop : {k : ℕ} → refused k ≡ attribute_at s start c e x p → attributes_at s start c e (specs_from count l) at ≡ refused k
+    unfolding attributes_at
+    kept_stop f = t.rest ∙ rw (next_spec count l i h, ← q, ← f)
 
   pub kept_end : count ≤ i → attributes_at s start c e (specs_from count l) at ≡ gives t.vs p
   unfolding attributes_at
@@ -128,9 +113,6 @@ module _ {n : ℕ} {s : List ℕ} {start : ℕ} {c : Encoding} {e : RunTimeEndia
 pub record Passed (s : List ℕ) (c : Encoding) (e : RunTimeEndian) (count : ℕ) (l : List ℕ) (at i p : ℕ) : Type 0 where
   pub inside : p ≤ length s
   pub is : (start : ℕ) → end_of (attributes_at s start c e (specs_from count l) at) ≡ end_of (attributes_at s start c e (drop i (specs_from count l)) p)
-
-pub passed_begun : (s : List ℕ) (c : Encoding) (e : RunTimeEndian) (count : ℕ) (l : List ℕ) (at : ℕ) → at ≤ length s → Passed s c e count l at 0 at
-passed_begun s c e count l at h = record { inside = h; is = λ _. refl }
 
 -- where one attribute and more end
 end_more : (s : List ℕ) (start : ℕ) (c : Encoding) (e : RunTimeEndian) (x : Specification) (xs : List Specification) (p : ℕ) → end_of (attributes_at s start c e (x ∷ xs) p) ≡ and_then (end_of (form_at s start c e x p)) (λ q. end_of (attributes_at s start c e xs q))
@@ -158,7 +140,7 @@ module _ {s : List ℕ} {c : Encoding} {e : RunTimeEndian} {count : ℕ} {l : Li
       where
         ended : (v : Answer (Read Value)) → got r ≡ end_of v → Holds (λ y. Past s c e x.form p y.next) v → r ≤ length s
         ended (got y) g z = let k : r ≡ y.next = cc in rw k z.ahead.within
-        ended (refused n) g z = let k : ◌≡◌ {A = ℕ} 0 1 = cc in absurd (omega arith)
+        ended (refused n) g z = absurd (cc)
 
     pub passed_stop : {k : ℕ} → ((start : ℕ) → refused k ≡ end_of (form_at s start c e x p)) → (start : ℕ) → refused k ≡ end_of (attributes_at s start c e (specs_from count l) at)
     passed_stop {k} f start =
@@ -195,6 +177,8 @@ module _ {s : List ℕ} {c : Encoding} {e : RunTimeEndian} {count : ℕ} {l : Li
   unfolding past_values
   skipped_end h = sym (t.is ∙ rw (no_spec count l i h) (then_got (skip_at s p sum)))
 
+pub ruleset skipped_laws = (skipped_begun, skipped_more, skipped_stop, skipped_end)
+
 -- 01, demand 3, of the functions' contracts: where an entry's values are read, skipping them ends on the same byte
 pub read_skip : (most : ℕ) (s : List ℕ) (start : ℕ) (c : Encoding) (e : RunTimeEndian) (specs : List ℕ) (f : Found) (at : ℕ)
     → Holds (λ r. skip_attributes most s start c e specs f at ≡ got r.next) (read_attributes most s start c e specs f at)
@@ -212,14 +196,6 @@ read_skip most s start c e specs f at = go (keeps_place (length s) start at && k
     go false h = tt
 
 -- ---- sizes that were judged
-
-pub place_within : (n start at : ℕ) → keeps_place n start at ≡ true → Within n start at
-place_within n start at h =
-    let b = both (leb at n) (ltb (start + n) (2 ^ 63)) h in
-    record { inside = leb-true _ _ b.0; short = ltb-true _ _ b.1 }
-
-pub sizes_listed : (specs : List ℕ) (f : Found) → keeps_sizes entry_limit.most specs f ≡ true → Listed specs f.first f.count
-sizes_listed specs f h = let k = kept entry_limit.most specs f h in record { most = k.most_is; there = k.inside; fairs = k.fairs }
 
 -- one of the specifications
 pub record Specified (specs : List ℕ) (first i : ℕ) : Type 0 where

@@ -54,7 +54,7 @@ pub record Padded (s : List ℕ) (ns : List Leb128) : Type 0 where
 
 any_yes : (s : List ℕ) (ns : List Leb128) → any_padded s ns ≡ true → Padded s ns
 unfolding any_padded
-any_yes s [] h = let z : ◌≡◌ {A = ℕ} 0 1 = cc in absurd (omega arith)
+any_yes s [] h = absurd (cc)
 any_yes s (n ∷ ns) h = go (is_padded s n) refl h (any_yes s ns)
   where
     go : (t : Bool) → is_padded s n ≡ t → t || any_padded s ns ≡ true → (any_padded s ns ≡ true → Padded s ns) → Padded s (n ∷ ns)
@@ -150,34 +150,34 @@ unfolding follow layout_numbers raw_at numbered signed_at block_after
 layout_asked s start c e x L.Uleb128 at k h = go (uleb_at s at 64) (rw (eq-eqb at at refl) at h)
   where
     go : (u : Answer (Read ℕ)) → and_then u (λ r. got r.next) ≡ refused k → numbered u ≡ refused k
-    go (got r) q = let z : ◌≡◌ {A = ℕ} 0 1 = cc in absurd (omega arith)
+    go (got r) q = absurd (cc)
     go (refused j) q = cc
 layout_asked s start c e x L.Sleb128 at k h = go (sleb_at s at 64) (rw (eq-eqb at at refl) at h)
   where
     go : (u : Answer (Read ℤ)) → and_then u (λ r. got r.next) ≡ refused k → and_then u (λ v. gives (single (word 64 v.value)) v.next) ≡ refused k
-    go (got r) q = let z : ◌≡◌ {A = ℕ} 0 1 = cc in absurd (omega arith)
+    go (got r) q = absurd (cc)
     go (refused j) q = cc
 layout_asked s start c e x L.Block at k h = go (uleb_at s at 64) (rw (eq-eqb at at refl) at h)
   where
     go : (u : Answer (Read ℕ)) → and_then u (λ r. got r.next) ≡ refused k → block_after s start u ≡ refused k
-    go (got r) q = let z : ◌≡◌ {A = ℕ} 0 1 = cc in absurd (omega arith)
+    go (got r) q = absurd (cc)
     go (refused j) q = cc
-layout_asked s start c e x L.U8 at k h = let z : ◌≡◌ {A = ℕ} 0 1 = cc in absurd (omega arith)
-layout_asked s start c e x L.U16 at k h = let z : ◌≡◌ {A = ℕ} 0 1 = cc in absurd (omega arith)
-layout_asked s start c e x L.U24 at k h = let z : ◌≡◌ {A = ℕ} 0 1 = cc in absurd (omega arith)
-layout_asked s start c e x L.U32 at k h = let z : ◌≡◌ {A = ℕ} 0 1 = cc in absurd (omega arith)
-layout_asked s start c e x L.U64 at k h = let z : ◌≡◌ {A = ℕ} 0 1 = cc in absurd (omega arith)
-layout_asked s start c e x L.U128 at k h = let z : ◌≡◌ {A = ℕ} 0 1 = cc in absurd (omega arith)
-layout_asked s start c e x L.Offset at k h = let z : ◌≡◌ {A = ℕ} 0 1 = cc in absurd (omega arith)
-layout_asked s start c e x L.Address at k h = let z : ◌≡◌ {A = ℕ} 0 1 = cc in absurd (omega arith)
-layout_asked s start c e x L.RefAddr at k h = let z : ◌≡◌ {A = ℕ} 0 1 = cc in absurd (omega arith)
-layout_asked s start c e x L.Block1 at k h = let z : ◌≡◌ {A = ℕ} 0 1 = cc in absurd (omega arith)
-layout_asked s start c e x L.Block2 at k h = let z : ◌≡◌ {A = ℕ} 0 1 = cc in absurd (omega arith)
-layout_asked s start c e x L.Block4 at k h = let z : ◌≡◌ {A = ℕ} 0 1 = cc in absurd (omega arith)
-layout_asked s start c e x L.NullTerminated at k h = let z : ◌≡◌ {A = ℕ} 0 1 = cc in absurd (omega arith)
-layout_asked s start c e x L.Present at k h = let z : ◌≡◌ {A = ℕ} 0 1 = cc in absurd (omega arith)
-layout_asked s start c e x L.ImplicitConst at k h = let z : ◌≡◌ {A = ℕ} 0 1 = cc in absurd (omega arith)
-layout_asked s start c e x L.Unknown at k h = let z : ◌≡◌ {A = ℕ} 0 1 = cc in absurd (omega arith)
+layout_asked s start c e x L.U8 at k h = absurd (cc)
+layout_asked s start c e x L.U16 at k h = absurd (cc)
+layout_asked s start c e x L.U24 at k h = absurd (cc)
+layout_asked s start c e x L.U32 at k h = absurd (cc)
+layout_asked s start c e x L.U64 at k h = absurd (cc)
+layout_asked s start c e x L.U128 at k h = absurd (cc)
+layout_asked s start c e x L.Offset at k h = absurd (cc)
+layout_asked s start c e x L.Address at k h = absurd (cc)
+layout_asked s start c e x L.RefAddr at k h = absurd (cc)
+layout_asked s start c e x L.Block1 at k h = absurd (cc)
+layout_asked s start c e x L.Block2 at k h = absurd (cc)
+layout_asked s start c e x L.Block4 at k h = absurd (cc)
+layout_asked s start c e x L.NullTerminated at k h = absurd (cc)
+layout_asked s start c e x L.Present at k h = absurd (cc)
+layout_asked s start c e x L.ImplicitConst at k h = absurd (cc)
+layout_asked s start c e x L.Unknown at k h = absurd (cc)
 
 -- the numbers of a form that is not indirect are its layout's; an indirect one has the number that names its form, and then that form's
 pub numbers_plain : (s : List ℕ) (f at : ℕ) → (f ≡ 0x16 → ⊥) → numbers_at s f at ≡ layout_numbers (row f).layout at

@@ -1,17 +1,25 @@
 -- Laws of the mark of a value: the numbers that are read for it.
-use mathlib.Core.Bool.{Bool, true, false, cond, ◌||◌}
+use mathlib.Core.Bool.{Bool, false, cond, or-false, or_assoc, ◌||◌}
 use mathlib.Core.Path.{◌≡◌, refl, sym, ap, ◌∙◌}
 use mathlib.Core.List.{List, [], ◌∷◌, ◌++◌}
 use Prim.Native.Nat.{ℕ, zero, suc, ◌-◌, ◌≤◌, ◌<◌}
 use native.Mathlib.Omega.{arith}
 use borrow.Author.Tests.{ne_eqb}
 use lib.Dec.{eqb}
+use lib.IntN.{ℤ}
 use lib.ListN.{length}
+use Rattle.std.specs.Prelude.{Result}
+use Rattle.std.specs.Result.{IsErrAnd}
+use Rattle.std.proofs.lemmas.Result.{err_from_is_err_and}
+use Rattle.reader.specs.Errors.{number_of}
+use Rattle.reader.specs.Views.{view_read_by}
+use Rattle.reader.specs.declared.error.Error.{Error}
 use Rattle.reader.specs.Answer.{Answer, got, refused, and_then, Read, gives, Holds}
-use Rattle.reader.specs.Leb128.{uleb_at}
-use Rattle.reader.specs.Padded.{Counted, uleb_counted_at}
+use Rattle.reader.specs.Leb128.{uleb_at, sleb_at}
+use Rattle.reader.specs.Padded.{uleb_counted_at, sleb_counted_at}
+use Rattle.reader.specs.declared.answer.Counted.{Counted}
 use Rattle.reader.proofs.Accepted.{Ends, uleb_ends, uleb_none}
-use Rattle.reader.proofs.PaddedLaws.{unsigned_number}
+use Rattle.reader.proofs.PaddedLaws.{unsigned_number, signed_number}
 use Rattle.reader.specs.declared.common.Encoding.{Encoding}
 use Rattle.reader.specs.declared.endianity.RunTimeEndian.{RunTimeEndian}
 use Rattle.abbrev.specs.Table.{Specification}
@@ -22,6 +30,10 @@ use Rattle.attribute.specs.Steps.{Noted, noted}
 use Rattle.attribute.specs.declared.form.Row.{Row}
 use Rattle.attribute.specs.declared.value.Value.{Value}
 use Rattle.attribute.proofs.ReadLaws.{Turned, turned_begun, turned_more, turned_less, turned_stop, turned_end}
+
+-- the exit of a `?`
+pub refuses_by : {A B : Type 0} (f : A → B) (r : Result (A × ℕ) Error) (e : Error) → IsErrAnd r (λ x. x ≡ e) → view_read_by f r ≡ refused (number_of e)
+refuses_by f r e h = let p = err_from_is_err_and r h in rw (p.1, p.2)
 
 -- ---- a value with a mark
 
@@ -59,24 +71,20 @@ unsigned_known s at w x p e = sym (unsigned_number s at w) ∙ rw e
 pub unsigned_refused : (s : List ℕ) (at w n : ℕ) → uleb_counted_at s at w ≡ refused n → uleb_at s at w ≡ refused n
 unsigned_refused s at w n e = sym (unsigned_number s at w) ∙ rw e
 
+pub signed_known : (s : List ℕ) (at w : ℕ) (x : Counted ℤ) (p : ℕ) → sleb_counted_at s at w ≡ gives x p → sleb_at s at w ≡ gives x.number p
+signed_known s at w x p e = sym (signed_number s at w) ∙ rw e
+
+pub signed_refused : (s : List ℕ) (at w n : ℕ) → sleb_counted_at s at w ≡ refused n → sleb_at s at w ≡ refused n
+signed_refused s at w n e = sym (signed_number s at w) ∙ rw e
+
+pub ruleset counted_laws = (unsigned_known, unsigned_refused, signed_known, signed_refused)
+
 -- ---- one of several
-
-or_none : (b : Bool) → b || false ≡ b
-or_none true = refl
-or_none false = refl
-
-or_or : (a b c : Bool) → a || b || c ≡ a || (b || c)
-or_or true b c = refl
-or_or false b c = refl
-
-pub one_padded : (s : List ℕ) (n : Leb128) → any_padded s (n ∷ []) ≡ is_padded s n
-unfolding any_padded
-one_padded s n = or_none (is_padded s n)
 
 pub more_padded : (s : List ℕ) (ns ms : List Leb128) → any_padded s (ns ++ ms) ≡ any_padded s ns || any_padded s ms
 unfolding any_padded
 more_padded s [] ms = refl
-more_padded s (n ∷ ns) ms = ap (λ (b : Bool). is_padded s n || b) (more_padded s ns ms) ∙ sym (or_or (is_padded s n) (any_padded s ns) (any_padded s ms))
+more_padded s (n ∷ ns) ms = ap (λ (b : Bool). is_padded s n || b) (more_padded s ns ms) ∙ sym (or_assoc (is_padded s n) (any_padded s ns) (any_padded s ms))
 
 -- ---- the numbers that name forms, without a count of turns
 
@@ -115,7 +123,7 @@ module _ {s : List ℕ} {f at g p : ℕ} {b : Bool} (t : Named s f at g p b) whe
         let u = unsigned_known s p 16 x q e in
         record {
           turned = turned_more t.turned h u;
-          marks = t.marks ∙ rw (h, forms_step s 0x16 p, u, e) (sym (or_or b x.padded (any_padded s (form_numbers s x.number q))));
+          marks = t.marks ∙ rw (h, forms_step s 0x16 p, u, e) (sym (or_assoc b x.padded (any_padded s (form_numbers s x.number q))));
         }
 
     pub named_less : (x : Counted ℕ) (q : ℕ) → uleb_counted_at s p 16 ≡ gives x q → length s - q < length s - p
@@ -126,7 +134,9 @@ module _ {s : List ℕ} {f at g p : ℕ} {b : Bool} (t : Named s f at g p b) whe
 
   pub named_end : (g ≡ 0x16 → ⊥) → gives (record { value = g; padded = b }) p ≡ noted (any_padded s (form_numbers s f at)) (final_form s f at)
   unfolding any_padded
-  named_end h = rw (← turned_end t.turned h, t.marks, forms_plain s g p h, or_none b)
+  named_end h = rw (← turned_end t.turned h, t.marks, forms_plain s g p h, or-false b)
+
+pub ruleset named_laws = (named_begun, named_less, named_stop, named_end)
 
 -- a value by its final form g, and whether a number that names g or its own is padded
 module _ (s : List ℕ) (start : ℕ) (c : Encoding) (e : RunTimeEndian) (x : Specification) (at : ℕ) (g p : ℕ) (b : Bool) (w : Row)

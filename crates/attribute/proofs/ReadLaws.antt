@@ -15,12 +15,13 @@ use Rattle.reader.specs.Fields.{is_address_size, offset_at, address_at, null_ter
 use Rattle.reader.specs.Leb128.{uleb_at, sleb_at, past_at}
 use Rattle.reader.specs.Twos.{word}
 use Rattle.reader.specs.Words.{word_at, halves_at}
+use Rattle.reader.specs.declared.answer.Span.{Span}
 use Rattle.reader.specs.declared.common.Encoding.{Encoding}
 use Rattle.reader.specs.declared.endianity.RunTimeEndian.{RunTimeEndian}
 use Rattle.reader.proofs.Accepted.{Ends, uleb_ends, sleb_ends, uleb_none, past_in}
 use Rattle.reader.proofs.Answers.{holds_then, holds_map, end_holds, then_then, then_same, then_got, cond_by}
 use Rattle.reader.proofs.FieldLaws.{skip_in, skip_there, skip_skip, word_end, halves_end, offset_end, address_end, null_end}
-use Rattle.reader.proofs.WordLaws.{WordIn, word_in}
+use Rattle.reader.proofs.WordLaws.{WordIn, word_in, word_one}
 use Rattle.abbrev.specs.Table.{Specification}
 use Rattle.attribute.specs.Forms.{row, case_of, indirect}
 use Rattle.attribute.specs.Read.{Numbers, numbered, wide_at, signed_at, ref_addr_size, ref_addr_at, block_after, string_at, constant_of, raw_at, resolve, final_form, form_at, attribute_at, attributes_at}
@@ -109,6 +110,10 @@ pub string_end : (s : List ℕ) (start at : ℕ) → end_of (string_at s start a
 unfolding string_at
 string_end s start at = then_then (null_terminated_at s at) _ _ ∙ null_end s at
 
+pub string_same : (s : List ℕ) (start at : ℕ) → end_of (string_at s start at) ≡ end_of (null_terminated_at s at)
+unfolding string_at
+string_same s start at = then_then (null_terminated_at s at) _ _
+
 pub constant_end : (x : Specification) (at : ℕ) → end_of (constant_of x at) ≡ passed_constant x.form at
 unfolding constant_of
 constant_end x at = go (eqb x.form 0x21)
@@ -116,6 +121,8 @@ constant_end x at = go (eqb x.form 0x21)
     go : (t : Bool) → end_of {A = Numbers} (cond t (gives (record { low = x.constant; high = 0 }) at) (refused 18)) ≡ cond t (got at) (refused 18)
     go true = refl
     go false = refl
+
+pub ruleset ends = (numbered_end, wide_end, signed_end, ref_addr_end, block_end, string_same, constant_end, word_end, offset_end, address_end, word_one)
 
 -- what ends where skipping does
 ends_as : {A : Type 0} (r : Answer (Read A)) (m : Answer ℕ) → end_of r ≡ m → Holds (λ v. m ≡ got v.next) r
@@ -134,7 +141,7 @@ judged_as true r m k h = ends_as r m h
 judged_as false (got v) m k h = let z : got v.next ≡ refused k = h in absurd_got z
   where
     absurd_got : {B : Type 0} {n j : ℕ} → got n ≡ refused j → B
-    absurd_got e = let z : ◌≡◌ {A = ℕ} 0 1 = cc in absurd (omega arith)
+    absurd_got e = absurd (cc)
 judged_as false (refused n) m k h = tt
 
 addresses_as : (s : List ℕ) (at n : ℕ) (e : RunTimeEndian) → Holds (λ v. skip_at s at n ≡ got v.next) (address_at s at n e)
@@ -293,7 +300,7 @@ unfolding constant_of
 any_constant x at = cond_by (Holds (Bounded 8 false)) (eqb x.form 0x21) _ (refused 18) (λ _. record { narrow = λ l. absurd (omega (arith, l)); single = λ _. refl }) (λ _. tt)
 
 any_pair : (r : Answer (Read Numbers)) → Holds (Bounded 8 true) r
-any_pair (got v) = record { narrow = λ l. absurd (omega (arith, l)); single = λ q. let z : ◌≡◌ {A = ℕ} 0 1 = cc in absurd (omega arith) }
+any_pair (got v) = record { narrow = λ l. absurd (omega (arith, l)); single = λ q. absurd (cc) }
 any_pair (refused n) = tt
 
 raw_bounded : (s : List ℕ) (start : ℕ) (c : Encoding) (e : RunTimeEndian) (x : Specification) (l : Layout) (at : ℕ) → Holds (Bounded (layout_width l) (layout_wide l)) (raw_at s start c e x l at)
@@ -383,6 +390,15 @@ module _ {s : List ℕ} {f at g p : ℕ} (t : Turned s f at g p) where
 pub past_stays : (s : List ℕ) (at m : ℕ) {p : ℕ} → past_at s at m ≡ got p → skip_at s p 0 ≡ past_at s at m
 past_stays s at m {p} e = let z = rw e at (past_in s at m) in stays s p z.1 ∙ sym e
 
+-- the same past a string
+pub string_past : (s : List ℕ) (at : ℕ) (x : Span) (p : ℕ) → null_terminated_at s at ≡ gives x p → skip_at s p 0 ≡ past_at s at 1
+string_past s at x p e = past_stays s at 1 (sym (null_end s at) ∙ rw e)
+
+pub string_none : (s : List ℕ) (at n : ℕ) → null_terminated_at s at ≡ refused n → past_at s at 1 ≡ refused n
+string_none s at n e = sym (null_end s at) ∙ rw e
+
+pub ruleset past_laws = (past_stays, string_past, string_none, word_one)
+
 size_past : (s : List ℕ) (e : RunTimeEndian) (n at : ℕ) (x : Ending) → size_of x ≡ some n → past_ending s e x at ≡ skip_at s at n
 size_past s e n at (sized m) h = cc
 size_past s e n at (ended m) h = cc
@@ -394,7 +410,7 @@ size_past s e n at unknown h = cc
 pub sized_past : (s : List ℕ) (c : Encoding) (e : RunTimeEndian) (f n at : ℕ) → attribute_size f c ≡ some n → past_value s c e f at ≡ skip_at s at n
 unfolding past_value past_layout attribute_size
 sized_past s c e f n at h =
-    rw (final_plain s f at (ne_eqb f 0x16 (λ q. let z : none ≡ some n = sym (indirect_open c) ∙ ap (λ (k : ℕ). attribute_size k c) (sym q) ∙ h in let y : ◌≡◌ {A = ℕ} 0 1 = cc in omega arith))) (size_past s e n at (ending_of c (row f).layout) h)
+    rw (final_plain s f at (ne_eqb f 0x16 (λ q. let z : none ≡ some n = sym (indirect_open c) ∙ ap (λ (k : ℕ). attribute_size k c) (sym q) ∙ h in cc))) (size_past s e n at (ending_of c (row f).layout) h)
 
 -- so it is where a sum is yet to move by
 pub sized_sum : (s : List ℕ) (c : Encoding) (e : RunTimeEndian) (f n at sum : ℕ) → attribute_size f c ≡ some n → and_then (skip_at s at sum) (λ p. past_value s c e f p) ≡ skip_at s at (sum + n)

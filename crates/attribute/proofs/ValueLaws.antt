@@ -4,9 +4,13 @@ use mathlib.Core.Path.{◌≡◌, refl, sym, ap, ◌∙◌}
 use Prim.Native.Nat.{ℕ, ◌^◌, ◌<◌}
 use native.Mathlib.Omega.{arith}
 use lib.Dec.{eqb}
+use lib.IntN.{ℤ}
 use lib.Signed.{mag}
-use Rattle.reader.specs.Twos.{twos}
-use Rattle.reader.proofs.Signs.{twos_word}
+use Rattle.std.proofs.lemmas.Int.{of_z-to_z}
+use Rattle.reader.specs.Twos.{twos, word}
+use mir.Syntax.{w64}
+use mir.Val.{to_z, of_z}
+use Rattle.reader.proofs.Signs.{word_twos, twos_word, twos_cast}
 use Rattle.attribute.specs.Views.{view_value}
 use Rattle.attribute.specs.declared.form.Kind.{Kind}
 use Rattle.attribute.specs.declared.form.Kind.TheVariants as K
@@ -99,3 +103,7 @@ back_view (case.String a b) h = refl
 pub value_determined : (v w : AttributeValue) → Held v → Held w → view_value v ≡ view_value w → v ≡ w
 value_determined v w h k e =
     sym (back_view v h) ∙ ap (λ (x : Value). back x.kind x.low x.high) e ∙ back_view w k
+
+-- a word through its signed number
+pub word_kept : (z : ℤ) (n : ℕ) → z ≡ twos 64 n → n < 2 ^ 64 → word 64 (to_z w64 (of_z w64 z)) ≡ n
+word_kept z n e h = rw (e, ← twos_cast n h, of_z-to_z w64 n h, twos_cast n h) (word_twos 64 n h)

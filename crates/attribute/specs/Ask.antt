@@ -2,7 +2,7 @@
 use Rattle.std.specs.Prelude.{Bool, true, false, cond, List, ℕ, ◌+◌, ◌*◌, ◌^◌, ltb, ℤ, pos}
 use Rattle.std.proofs.Math.Option.{Option, none, some}
 use Rattle.reader.specs.Answer.{Answer, refused, if_some}
-use Rattle.reader.specs.Fields.{Span}
+use Rattle.reader.specs.declared.answer.Span.{Span}
 use Rattle.reader.specs.Twos.{twos}
 use Rattle.unit.specs.Range.{part}
 use Rattle.attribute.specs.Forms.{case_of}

@@ -2,7 +2,8 @@
 use Rattle.std.specs.Prelude.{Bool, false, cond, ◌||◌, List, [], ◌∷◌, ℕ, zero, suc, eqb, length}
 use Rattle.reader.specs.Answer.{Answer, got, refused, Read}
 use Rattle.reader.specs.Leb128.{uleb_at}
-use Rattle.reader.specs.Padded.{Counted, uleb_counted_at, sleb_counted_at}
+use Rattle.reader.specs.Padded.{uleb_counted_at, sleb_counted_at}
+use Rattle.reader.specs.declared.answer.Counted.{Counted}
 use Rattle.attribute.specs.Forms.{indirect}
 use Rattle.attribute.specs.declared.form.Layout.{Layout}
 use Rattle.attribute.specs.declared.form.Layout.TheVariants as L

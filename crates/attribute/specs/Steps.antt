@@ -1,16 +1,11 @@
 -- What the private functions ask for and promise.
-use Rattle.std.specs.Prelude.{Bool, true, false, cond, List, ◌≡◌, ℕ, ◌+◌, ◌*◌, ◌/◌, ◌^◌, ◌≤◌, ◌<◌, eqb, leb, length, drop}
-use Rattle.std.proofs.Math.Option.{Option, none, some}
+use Rattle.std.specs.Prelude.{Bool, true, false, cond, List, ◌≡◌, ℕ, ◌+◌, ◌*◌, ◌/◌, ◌^◌, ◌≤◌, ◌<◌, eqb, length, drop}
 use Rattle.reader.specs.Answer.{Answer, got, refused, and_then, Read, gives}
-use Rattle.reader.specs.Fields.{word_size, is_address_size, skip_at}
-use Rattle.reader.specs.declared.common.Encoding.{Encoding}
+use Rattle.reader.specs.Fields.{is_address_size, skip_at}
 use Rattle.abbrev.specs.Lookup.{specs_from, all_fair}
 use Rattle.abbrev.specs.Table.{entry_limit, implicit_const}
 use Rattle.attribute.specs.Forms.{case_of}
-use Rattle.attribute.specs.Read.{ref_addr_size}
 use Rattle.attribute.specs.declared.form.Kind.{Kind}
-use Rattle.attribute.specs.declared.form.Layout.{Layout}
-use Rattle.attribute.specs.declared.form.Layout.TheVariants as L
 use Rattle.attribute.specs.declared.form.Sort.{Sort}
 use Rattle.attribute.specs.declared.form.Sort.TheVariants as S
 
@@ -62,36 +57,6 @@ pub record Fits (k : Kind) (low high : ℕ) : Type 0 where
   pub narrow : width_by (case_of k).sort < 8 → low < 2 ^ (8 * width_by (case_of k).sort)
   pub single : is_wide (case_of k).sort ≡ false → high ≡ 0
 
--- the class of a layout's size: its bytes up to 16, or what decides them
-abbrev pub class_of : Layout → ℕ
-class_of L.U8 = 1
-class_of L.U16 = 2
-class_of L.U24 = 3
-class_of L.U32 = 4
-class_of L.U64 = 8
-class_of L.U128 = 16
-class_of L.Offset = 17
-class_of L.Address = 18
-class_of L.RefAddr = 19
-class_of L.Present = 0
-class_of L.ImplicitConst = 0
-class_of L.Uleb128 = 20
-class_of L.Sleb128 = 20
-class_of L.Block1 = 20
-class_of L.Block2 = 20
-class_of L.Block4 = 20
-class_of L.Block = 20
-class_of L.NullTerminated = 20
-class_of L.Unknown = 20
-
--- the size of a class
-abbrev pub class_size : ℕ → Encoding → Option ℕ
-class_size k c =
-    cond (leb k 16) (some k)
-    (cond (eqb k 17) (some (word_size c.format))
-    (cond (eqb k 18) (some c.address_size)
-    (cond (eqb k 19) (some (ref_addr_size c)) none)))
-
 -- past an address
 abbrev pub passed_address : List ℕ → ℕ → ℕ → Answer ℕ
 passed_address s at n = cond (is_address_size n) (skip_at s at n) (refused 7)
@@ -99,8 +64,3 @@ passed_address s at n = cond (is_address_size n) (skip_at s at n) (refused 7)
 -- past a constant that is the specification's own
 abbrev pub passed_constant : ℕ → ℕ → Answer ℕ
 passed_constant f at = cond (eqb f implicit_const) (got at) (refused 18)
-
--- a number of so many bytes, 1, 2, 4 or 8
-pub record Extends (size low : ℕ) : Type 0 where
-  pub is : is_address_size size ≡ true
-  pub narrow : low < 2 ^ (8 * size)

@@ -1,11 +1,12 @@
 -- The code's answers and values in the definitions' terms.
-use Rattle.std.specs.Prelude.{cond, List, map, ℕ}
+use Rattle.std.specs.Prelude.{cond, List, map, ℕ, Result, Some, None}
+use Rattle.std.specs.Prelude as code
 use Rattle.std.proofs.Math.Option.{Option, none, some}
-use Rattle.reader.specs.Answer.{Answer, refused, Read, gives}
-use Rattle.reader.specs.Errors.{number_of}
-use Rattle.reader.specs.Fields.{Span, skip_at}
+use Rattle.reader.specs.Answer.{Answer, Read}
 use Rattle.reader.specs.Twos.{word}
-use Rattle.reader.specs.Views.{view_place}
+use Rattle.reader.specs.Views.{view, view_read_by}
+use Rattle.reader.specs.declared.answer.Span.{Span}
+use Rattle.reader.specs.declared.error.Error.{Error}
 use Rattle.attribute.specs.Attributes.{Stored}
 use Rattle.attribute.specs.Read.{Numbers}
 use Rattle.attribute.specs.Steps.{Noted}
@@ -13,25 +14,12 @@ use Rattle.attribute.specs.Value.{Attribute}
 use Rattle.attribute.specs.declared.form.Kind.{Kind}
 use Rattle.attribute.specs.declared.form.Kind.TheVariants as K
 use Rattle.attribute.specs.declared.parse.Attributes.{Attributes}
-use Rattle.attribute.specs.declared.parse.Parsed.{Parsed}
-use Rattle.attribute.specs.declared.parse.Parsed.TheVariants as parsed
 use Rattle.attribute.specs.declared.raw.Final.{Final}
-use Rattle.attribute.specs.declared.raw.Final.TheVariants as final
 use Rattle.attribute.specs.declared.raw.FormValue.{FormValue}
-use Rattle.attribute.specs.declared.raw.FormValue.TheVariants as form_value
 use Rattle.attribute.specs.declared.raw.Raw.{Raw}
-use Rattle.attribute.specs.declared.raw.Raw.TheVariants as raw
-use Rattle.attribute.specs.declared.size.Size.{Size}
-use Rattle.attribute.specs.declared.size.Size.TheVariants as size
-use Rattle.attribute.specs.declared.skip.Pending.{Pending}
-use Rattle.attribute.specs.declared.skip.Pending.TheVariants as pending
 use Rattle.attribute.specs.declared.value.Attribute as declared_attribute
 use Rattle.attribute.specs.declared.value.AttributeValue.{AttributeValue}
 use Rattle.attribute.specs.declared.value.AttributeValue.TheVariants as case
-use Rattle.attribute.specs.declared.value.Number.{Number}
-use Rattle.attribute.specs.declared.value.Number.TheVariants as numeral
-use Rattle.attribute.specs.declared.value.Part.{Part}
-use Rattle.attribute.specs.declared.value.Part.TheVariants as placed
 use Rattle.attribute.specs.declared.value.Value.{Value}
 
 abbrev pub value : Kind → ℕ → ℕ → Value
@@ -67,38 +55,34 @@ view_value (case.String a n) = value K.String a n
 abbrev pub view_attribute : declared_attribute.Attribute → Attribute
 view_attribute a = record { name = a.name; form = a.form; padded = a.padded; value = view_value a.value }
 
-abbrev pub view_raw : Raw → Answer (Read (Noted Numbers))
-view_raw (raw.Got l p h b) = gives (record { value = record { low = l; high = h }; padded = b }) p
-view_raw (raw.Refused e) = refused (number_of e)
+abbrev pub noted_numbers : Raw → Noted Numbers
+noted_numbers r = record { value = record { low = r.low; high = r.high }; padded = r.padded }
 
-abbrev pub view_final : Final → Answer (Read (Noted ℕ))
-view_final (final.Got f p b) = gives (record { value = f; padded = b }) p
-view_final (final.Refused e) = refused (number_of e)
+abbrev pub view_raw : Result (Raw × ℕ) Error → Answer (Read (Noted Numbers))
+view_raw r = view_read_by noted_numbers r
 
-abbrev pub view_form_value : FormValue → Answer (Read (Noted Value))
-view_form_value (form_value.Got k l p h b) = gives (record { value = value k l h; padded = b }) p
-view_form_value (form_value.Refused e) = refused (number_of e)
+abbrev pub noted_form : Final → Noted ℕ
+noted_form f = record { value = f.form; padded = f.padded }
 
-abbrev pub view_parsed : Parsed → Answer (Read Attribute)
-view_parsed (parsed.Got a p) = gives (view_attribute a) p
-view_parsed (parsed.Refused e) = refused (number_of e)
+abbrev pub view_final : Result (Final × ℕ) Error → Answer (Read (Noted ℕ))
+view_final r = view_read_by noted_form r
+
+abbrev pub noted_value : FormValue → Noted Value
+noted_value v = record { value = value v.kind v.low v.high; padded = v.padded }
+
+abbrev pub view_form_value : Result (FormValue × ℕ) Error → Answer (Read (Noted Value))
+view_form_value r = view_read_by noted_value r
+
+abbrev pub view_parsed : Result (declared_attribute.Attribute × ℕ) Error → Answer (Read Attribute)
+view_parsed r = view_read_by view_attribute r
 
 abbrev pub view_attributes : Attributes → Stored
-view_attributes r = record { end = view_place r.end; attrs = map view_attribute r.attrs }
+view_attributes r = record { end = view r.end; attrs = map view_attribute r.attrs }
 
-abbrev pub view_size : Size → Option ℕ
-view_size (size.Bytes n) = some n
-view_size size.Variable = none
+abbrev pub view_number : code.Option ℕ → Option ℕ
+view_number (Some n) = some n
+view_number None = none
 
--- where moving on by what is left to move leads
-abbrev pub view_pending : List ℕ → Pending → Answer ℕ
-view_pending s (pending.Got p sum) = skip_at s p sum
-view_pending s (pending.Refused e) = refused (number_of e)
-
-abbrev pub view_number : Number → Option ℕ
-view_number (numeral.Value n) = some n
-view_number numeral.Absent = none
-
-abbrev pub view_part : Part → Option Span
-view_part (placed.At a n) = some (record { start = a; len = n })
-view_part placed.Absent = none
+abbrev pub view_part : code.Option (ℕ × ℕ) → Option Span
+view_part (Some (a, n)) = some (record { start = a; len = n })
+view_part None = none

@@ -1,10 +1,10 @@
 // Forms: how a form's values stand in the bytes, and which case of `AttributeValue` they are.
 
 ghost use Rattle.std.specs.Prelude.{◌≡◌};
-ghost use Rattle.attribute.specs.Forms.{row, case_of};
+ghost use Rattle.attribute.specs.Forms.{row, row_of, case_of};
 
 // How a value stands in the bytes.
-#[derive(Clone, Copy)]
+#[derive(Clone, Copy, Debug, PartialEq, Eq)]
 pub enum Layout {
     U8,
     U16,
@@ -34,7 +34,7 @@ pub enum Layout {
 }
 
 // The cases of `AttributeValue` without their values.
-#[derive(Clone, Copy)]
+#[derive(Clone, Copy, Debug, PartialEq, Eq)]
 pub enum Kind {
     Addr,
     Block,
@@ -63,7 +63,7 @@ pub enum Kind {
 }
 
 // What the numbers of a value are.
-#[derive(Clone, Copy)]
+#[derive(Clone, Copy, Debug, PartialEq, Eq)]
 pub enum Sort {
     // a constant of so many bytes
     Constant(u8),
@@ -85,212 +85,77 @@ pub enum Sort {
 
 // A case of `AttributeValue`: its number, in gimli's order from 1 on, what its numbers are, and
 // whether it points out of the unit.
-#[derive(Clone, Copy)]
+#[derive(Clone, Copy, Debug, PartialEq, Eq)]
 pub struct Case {
     pub number: u8,
     pub sort: Sort,
     pub outward: bool,
 }
 
-#[derive(Clone, Copy)]
+#[derive(Clone, Copy, Debug, PartialEq, Eq)]
 pub struct Row {
     pub layout: Layout,
     pub kind: Kind,
 }
 
-// The row of a form.
+// The row of a form, one to a line.
+#[tactic(auto, unfolding(crate::specs::Forms::row, crate::specs::Forms::row_in, crate::specs::Forms::forms))]
 pub(crate) fn row_of(form: u64) -> Row
     ensures { result ≡ row form }
 {
     match form {
-        0x01 => Row {
-            layout: Layout::Address,
-            kind: Kind::Addr,
-        },
-        0x03 => Row {
-            layout: Layout::Block2,
-            kind: Kind::Block,
-        },
-        0x04 => Row {
-            layout: Layout::Block4,
-            kind: Kind::Block,
-        },
-        0x05 => Row {
-            layout: Layout::U16,
-            kind: Kind::Data2,
-        },
-        0x06 => Row {
-            layout: Layout::U32,
-            kind: Kind::Data4,
-        },
-        0x07 => Row {
-            layout: Layout::U64,
-            kind: Kind::Data8,
-        },
-        0x08 => Row {
-            layout: Layout::NullTerminated,
-            kind: Kind::String,
-        },
-        0x09 => Row {
-            layout: Layout::Block,
-            kind: Kind::Block,
-        },
-        0x0a => Row {
-            layout: Layout::Block1,
-            kind: Kind::Block,
-        },
-        0x0b => Row {
-            layout: Layout::U8,
-            kind: Kind::Data1,
-        },
-        0x0c => Row {
-            layout: Layout::U8,
-            kind: Kind::Flag,
-        },
-        0x0d => Row {
-            layout: Layout::Sleb128,
-            kind: Kind::Sdata,
-        },
-        0x0e => Row {
-            layout: Layout::Offset,
-            kind: Kind::DebugStrRef,
-        },
-        0x0f => Row {
-            layout: Layout::Uleb128,
-            kind: Kind::Udata,
-        },
-        0x10 => Row {
-            layout: Layout::RefAddr,
-            kind: Kind::DebugInfoRef,
-        },
-        0x11 => Row {
-            layout: Layout::U8,
-            kind: Kind::UnitRef,
-        },
-        0x12 => Row {
-            layout: Layout::U16,
-            kind: Kind::UnitRef,
-        },
-        0x13 => Row {
-            layout: Layout::U32,
-            kind: Kind::UnitRef,
-        },
-        0x14 => Row {
-            layout: Layout::U64,
-            kind: Kind::UnitRef,
-        },
-        0x15 => Row {
-            layout: Layout::Uleb128,
-            kind: Kind::UnitRef,
-        },
-        0x17 => Row {
-            layout: Layout::Offset,
-            kind: Kind::SecOffset,
-        },
-        0x18 => Row {
-            layout: Layout::Block,
-            kind: Kind::Exprloc,
-        },
-        0x19 => Row {
-            layout: Layout::Present,
-            kind: Kind::Flag,
-        },
-        0x1a => Row {
-            layout: Layout::Uleb128,
-            kind: Kind::DebugStrOffsetsIndex,
-        },
-        0x1b => Row {
-            layout: Layout::Uleb128,
-            kind: Kind::DebugAddrIndex,
-        },
-        0x1c => Row {
-            layout: Layout::U32,
-            kind: Kind::DebugInfoRefSup,
-        },
-        0x1d => Row {
-            layout: Layout::Offset,
-            kind: Kind::DebugStrRefSup,
-        },
-        0x1e => Row {
-            layout: Layout::U128,
-            kind: Kind::Data16,
-        },
-        0x1f => Row {
-            layout: Layout::Offset,
-            kind: Kind::DebugLineStrRef,
-        },
-        0x20 => Row {
-            layout: Layout::U64,
-            kind: Kind::DebugTypesRef,
-        },
-        0x21 => Row {
-            layout: Layout::ImplicitConst,
-            kind: Kind::Sdata,
-        },
-        0x22 => Row {
-            layout: Layout::Uleb128,
-            kind: Kind::DebugLocListsIndex,
-        },
-        0x23 => Row {
-            layout: Layout::Uleb128,
-            kind: Kind::DebugRngListsIndex,
-        },
-        0x24 => Row {
-            layout: Layout::U64,
-            kind: Kind::DebugInfoRefSup,
-        },
-        0x25 => Row {
-            layout: Layout::U8,
-            kind: Kind::DebugStrOffsetsIndex,
-        },
-        0x26 => Row {
-            layout: Layout::U16,
-            kind: Kind::DebugStrOffsetsIndex,
-        },
-        0x27 => Row {
-            layout: Layout::U24,
-            kind: Kind::DebugStrOffsetsIndex,
-        },
-        0x28 => Row {
-            layout: Layout::U32,
-            kind: Kind::DebugStrOffsetsIndex,
-        },
-        0x29 => Row {
-            layout: Layout::U8,
-            kind: Kind::DebugAddrIndex,
-        },
-        0x2a => Row {
-            layout: Layout::U16,
-            kind: Kind::DebugAddrIndex,
-        },
-        0x2b => Row {
-            layout: Layout::U24,
-            kind: Kind::DebugAddrIndex,
-        },
-        0x2c => Row {
-            layout: Layout::U32,
-            kind: Kind::DebugAddrIndex,
-        },
-        0x1f01 => Row {
-            layout: Layout::Uleb128,
-            kind: Kind::DebugAddrIndex,
-        },
-        0x1f02 => Row {
-            layout: Layout::Uleb128,
-            kind: Kind::DebugStrOffsetsIndex,
-        },
-        0x1f20 => Row {
-            layout: Layout::Offset,
-            kind: Kind::DebugInfoRefSup,
-        },
-        0x1f21 => Row {
-            layout: Layout::Offset,
-            kind: Kind::DebugStrRefSup,
-        },
-        _ => Row {
-            layout: Layout::Unknown,
-            kind: Kind::Udata,
-        },
+        0x01 => Row::new(Layout::Address, Kind::Addr), // addr
+        0x03 => Row::new(Layout::Block2, Kind::Block), // block2
+        0x04 => Row::new(Layout::Block4, Kind::Block), // block4
+        0x05 => Row::new(Layout::U16, Kind::Data2), // data2
+        0x06 => Row::new(Layout::U32, Kind::Data4), // data4
+        0x07 => Row::new(Layout::U64, Kind::Data8), // data8
+        0x08 => Row::new(Layout::NullTerminated, Kind::String), // string
+        0x09 => Row::new(Layout::Block, Kind::Block), // block
+        0x0a => Row::new(Layout::Block1, Kind::Block), // block1
+        0x0b => Row::new(Layout::U8, Kind::Data1), // data1
+        0x0c => Row::new(Layout::U8, Kind::Flag), // flag
+        0x0d => Row::new(Layout::Sleb128, Kind::Sdata), // sdata
+        0x0e => Row::new(Layout::Offset, Kind::DebugStrRef), // strp
+        0x0f => Row::new(Layout::Uleb128, Kind::Udata), // udata
+        0x10 => Row::new(Layout::RefAddr, Kind::DebugInfoRef), // ref_addr
+        0x11 => Row::new(Layout::U8, Kind::UnitRef), // ref1
+        0x12 => Row::new(Layout::U16, Kind::UnitRef), // ref2
+        0x13 => Row::new(Layout::U32, Kind::UnitRef), // ref4
+        0x14 => Row::new(Layout::U64, Kind::UnitRef), // ref8
+        0x15 => Row::new(Layout::Uleb128, Kind::UnitRef), // ref_udata
+        0x17 => Row::new(Layout::Offset, Kind::SecOffset), // sec_offset
+        0x18 => Row::new(Layout::Block, Kind::Exprloc), // exprloc
+        0x19 => Row::new(Layout::Present, Kind::Flag), // flag_present
+        0x1a | 0x1f02 => Row::new(Layout::Uleb128, Kind::DebugStrOffsetsIndex), // strx, GNU_str_index
+        0x1b | 0x1f01 => Row::new(Layout::Uleb128, Kind::DebugAddrIndex), // addrx, GNU_addr_index
+        0x1c => Row::new(Layout::U32, Kind::DebugInfoRefSup), // ref_sup4
+        0x1d | 0x1f21 => Row::new(Layout::Offset, Kind::DebugStrRefSup), // strp_sup, GNU_strp_alt
+        0x1e => Row::new(Layout::U128, Kind::Data16), // data16
+        0x1f => Row::new(Layout::Offset, Kind::DebugLineStrRef), // line_strp
+        0x20 => Row::new(Layout::U64, Kind::DebugTypesRef), // ref_sig8
+        0x21 => Row::new(Layout::ImplicitConst, Kind::Sdata), // implicit_const
+        0x22 => Row::new(Layout::Uleb128, Kind::DebugLocListsIndex), // loclistx
+        0x23 => Row::new(Layout::Uleb128, Kind::DebugRngListsIndex), // rnglistx
+        0x24 => Row::new(Layout::U64, Kind::DebugInfoRefSup), // ref_sup8
+        0x25 => Row::new(Layout::U8, Kind::DebugStrOffsetsIndex), // strx1
+        0x26 => Row::new(Layout::U16, Kind::DebugStrOffsetsIndex), // strx2
+        0x27 => Row::new(Layout::U24, Kind::DebugStrOffsetsIndex), // strx3
+        0x28 => Row::new(Layout::U32, Kind::DebugStrOffsetsIndex), // strx4
+        0x29 => Row::new(Layout::U8, Kind::DebugAddrIndex), // addrx1
+        0x2a => Row::new(Layout::U16, Kind::DebugAddrIndex), // addrx2
+        0x2b => Row::new(Layout::U24, Kind::DebugAddrIndex), // addrx3
+        0x2c => Row::new(Layout::U32, Kind::DebugAddrIndex), // addrx4
+        0x1f20 => Row::new(Layout::Offset, Kind::DebugInfoRefSup), // GNU_ref_alt
+        _ => Row::new(Layout::Unknown, Kind::Udata),
+    }
+}
+
+impl Row {
+    fn new(layout: Layout, kind: Kind) -> Row
+        ensures { result ≡ row_of layout kind }
+    {
+        Row { layout, kind }
     }
 }
 
@@ -298,127 +163,45 @@ impl Kind {
     pub fn case(self) -> Case
         ensures { result ≡ case_of self }
     {
-        match self {
-            Kind::Addr => Case {
-                number: 1,
-                sort: Sort::Other,
-                outward: false,
-            },
-            Kind::Block => Case {
-                number: 2,
-                sort: Sort::Span,
-                outward: false,
-            },
-            Kind::Data1 => Case {
-                number: 3,
-                sort: Sort::Constant(1),
-                outward: false,
-            },
-            Kind::Data2 => Case {
-                number: 4,
-                sort: Sort::Constant(2),
-                outward: false,
-            },
-            Kind::Data4 => Case {
-                number: 5,
-                sort: Sort::Constant(4),
-                outward: false,
-            },
-            Kind::Data8 => Case {
-                number: 6,
-                sort: Sort::Constant(8),
-                outward: false,
-            },
-            Kind::Data16 => Case {
-                number: 7,
-                sort: Sort::Halves,
-                outward: false,
-            },
-            Kind::Sdata => Case {
-                number: 8,
-                sort: Sort::Signed,
-                outward: false,
-            },
-            Kind::Udata => Case {
-                number: 9,
-                sort: Sort::Unsigned,
-                outward: false,
-            },
-            Kind::Exprloc => Case {
-                number: 10,
-                sort: Sort::Span,
-                outward: false,
-            },
-            Kind::Flag => Case {
-                number: 11,
-                sort: Sort::Flag,
-                outward: false,
-            },
-            Kind::SecOffset => Case {
-                number: 12,
-                sort: Sort::Offset,
-                outward: true,
-            },
-            Kind::DebugAddrIndex => Case {
-                number: 13,
-                sort: Sort::Other,
-                outward: false,
-            },
-            Kind::UnitRef => Case {
-                number: 14,
-                sort: Sort::Other,
-                outward: false,
-            },
-            Kind::DebugInfoRef => Case {
-                number: 15,
-                sort: Sort::Other,
-                outward: true,
-            },
-            Kind::DebugInfoRefSup => Case {
-                number: 16,
-                sort: Sort::Other,
-                outward: true,
-            },
-            Kind::DebugLocListsIndex => Case {
-                number: 17,
-                sort: Sort::Other,
-                outward: false,
-            },
-            Kind::DebugRngListsIndex => Case {
-                number: 18,
-                sort: Sort::Other,
-                outward: false,
-            },
-            Kind::DebugTypesRef => Case {
-                number: 19,
-                sort: Sort::Other,
-                outward: true,
-            },
-            Kind::DebugStrRef => Case {
-                number: 20,
-                sort: Sort::Other,
-                outward: true,
-            },
-            Kind::DebugStrRefSup => Case {
-                number: 21,
-                sort: Sort::Other,
-                outward: true,
-            },
-            Kind::DebugStrOffsetsIndex => Case {
-                number: 22,
-                sort: Sort::Other,
-                outward: false,
-            },
-            Kind::DebugLineStrRef => Case {
-                number: 23,
-                sort: Sort::Other,
-                outward: true,
-            },
-            Kind::String => Case {
-                number: 24,
-                sort: Sort::String,
-                outward: false,
-            },
+        Case {
+            number: self as u8 + 1,
+            sort: self.sort(),
+            outward: self.is_outward(),
         }
+    }
+
+    fn sort(self) -> Sort
+        ensures { result ≡ (case_of self).sort }
+    {
+        match self {
+            Kind::Data1 => Sort::Constant(1),
+            Kind::Data2 => Sort::Constant(2),
+            Kind::Data4 => Sort::Constant(4),
+            Kind::Data8 => Sort::Constant(8),
+            Kind::Udata => Sort::Unsigned,
+            Kind::Sdata => Sort::Signed,
+            Kind::Flag => Sort::Flag,
+            Kind::Data16 => Sort::Halves,
+            Kind::Block | Kind::Exprloc => Sort::Span,
+            Kind::String => Sort::String,
+            Kind::SecOffset => Sort::Offset,
+            _ => Sort::Other,
+        }
+    }
+
+    // Whether it points out of its unit.
+    fn is_outward(self) -> bool
+        ensures { result ≡ (case_of self).outward }
+    {
+        matches!(
+            self,
+            Kind::SecOffset
+                | Kind::DebugInfoRef
+                | Kind::DebugInfoRefSup
+                | Kind::DebugTypesRef
+                | Kind::DebugStrRef
+                | Kind::DebugStrRefSup
+                | Kind::DebugLineStrRef
+        )
     }
 }

@@ -9,45 +9,35 @@ ghost use Rattle.attribute.specs.Read.{attribute_at, attributes_at};
 ghost use Rattle.attribute.specs.Steps.{Within, Listed};
 ghost use Rattle.attribute.specs.Views.{view_parsed, view_attributes};
 
-use super::raw::{FormValue, form_at};
+use super::raw::form_at;
 use super::value::{Attribute, value_of};
 use abbrev::lookup::{Abbreviation, AttributeSpecification};
-use reader::answer::Place;
+use reader::answer::Read;
 use reader::common::Encoding;
 use reader::endianity::RunTimeEndian;
 use reader::error::Error;
 
-// An attribute and the next place.
-#[derive(Clone, Copy)]
-pub enum Parsed {
-    Got(Attribute, usize),
-    Refused(Error),
-}
-
 // Where the values end, and the attributes; places without one hold one fixed attribute, all of them
 // after a refusal.
-#[derive(Clone, Copy)]
+#[derive(Clone, Copy, Debug, PartialEq, Eq)]
 pub struct Attributes {
-    pub end: Place,
+    pub end: Result<usize, Error>,
     pub attrs: [Attribute; 64],
 }
+
+// One less than 2^63.
+pub const MOST: usize = 0x7fff_ffff_ffff_ffff;
 
 // Whether a position and an offset keep document 01's sizes.
 pub fn keeps_place(count: usize, start: usize, at: usize) -> bool
     ensures { result ≡ keeps_place count start at }
 {
-    if count < at {
-        return false;
-    }
-    if 0x7fff_ffff_ffff_ffff < count {
-        return false;
-    }
-    if 0x7fff_ffff_ffff_ffff - count < start {
-        return false;
-    }
-    true
+    at <= count && count <= MOST && start <= MOST - count
 }
 
+// In line: handed back through memory, an attribute would wait for its stores in `read_listed`.
+#[tactic(auto, using(crate::proofs::PaddedLaws::form_got, crate::proofs::PaddedLaws::form_plainly, crate::proofs::ReadLaws::form_fits), unfolding(crate::specs::Read::attribute_at))]
+#[inline(always)]
 fn parse_at(
     bytes: &[u8],
     start: usize,
@@ -55,27 +45,22 @@ fn parse_at(
     encoding: Encoding,
     endian: RunTimeEndian,
     spec: AttributeSpecification,
-) -> Parsed
+) -> Read<Attribute>
     requires { Within (length bytes.now) start at }
     ensures { view_parsed result ≡ attribute_at bytes.now start encoding endian (specification_of spec) at }
 {
-    match form_at(bytes, start, encoding, endian, spec, at) {
-        FormValue::Got(kind, low, next, high, padded) => {
-            let name = spec.name;
-            let value = value_of(encoding, name, kind, low, high);
-            let attribute = Attribute {
-                name,
-                form: spec.form,
-                padded,
-                value,
-            };
-            Parsed::Got(attribute, next)
-        }
-        FormValue::Refused(e) => Parsed::Refused(e),
-    }
+    let (found, next) = form_at(bytes, start, encoding, endian, spec, at)?;
+    let attribute = Attribute {
+        name: spec.name,
+        form: spec.form,
+        padded: found.padded,
+        value: value_of(encoding, spec.name, found.kind, found.low, found.high),
+    };
+    Ok((attribute, next))
 }
 
 // gimli's `parse_attribute`: one value at `at`, by its specification.
+#[tactic(auto, unfolding(crate::specs::Attributes::read_attribute))]
 pub fn parse_attribute(
     bytes: &[u8],
     start: usize,
@@ -83,16 +68,17 @@ pub fn parse_attribute(
     encoding: Encoding,
     endian: RunTimeEndian,
     spec: AttributeSpecification,
-) -> Parsed
+) -> Read<Attribute>
     ensures { view_parsed result ≡ read_attribute bytes.now start encoding endian (specification_of spec) at }
 {
     if keeps_place(bytes.len(), start, at) {
         return parse_at(bytes, start, at, encoding, endian, spec);
     }
-    Parsed::Refused(Error::SizeLimit)
+    Err(Error::SizeLimit)
 }
 
 // The `i`-th of the specifications from row `first` on.
+#[tactic(auto, using(crate::proofs::ListLaws::listed_spec))]
 pub(crate) fn spec_at(specs: &[u64], first: usize, count: usize, i: usize) -> AttributeSpecification
     requires listed { Listed specs.now first count }
     requires i_lt_count { i < count }
@@ -106,7 +92,8 @@ pub(crate) fn spec_at(specs: &[u64], first: usize, count: usize, i: usize) -> At
     }
 }
 
-// All values of the specifications from row `first` on.
+// All values of the specifications from row `first` on. What stands after a refusal is written out
+// here and in `read_attributes`: handed back by a function, it costs a copy of the array more.
 fn read_listed(
     bytes: &[u8],
     start: usize,
@@ -121,40 +108,31 @@ fn read_listed(
     requires listed { Listed specs.now first count }
     ensures { view_attributes result ≡ stored entry_limit.most (attributes_at bytes.now start encoding endian (specs_from count (drop (first * 3) specs.now)) at) }
 {
-    let none = Attribute::none();
-    let mut attrs = [none; 64];
+    let mut attrs = [Attribute::none(); 64];
     let mut next = at;
-    let mut i: usize = 0;
-    while i < count {
+    for i in 0..count {
         let spec = spec_at(specs, first, count, i);
-        match form_at(bytes, start, encoding, endian, spec, next) {
-            FormValue::Got(kind, low, after, high, padded) => {
-                let name = spec.name;
-                let value = value_of(encoding, name, kind, low, high);
-                attrs[i] = Attribute {
-                    name,
-                    form: spec.form,
-                    padded,
-                    value,
-                };
+        match parse_at(bytes, start, next, encoding, endian, spec) {
+            Ok((attribute, after)) => {
+                attrs[i] = attribute;
                 next = after;
             }
-            FormValue::Refused(e) => {
+            Err(e) => {
                 return Attributes {
-                    end: Place::Refused(e),
-                    attrs: [none; 64],
-                };
+                    end: Err(e),
+                    attrs: [Attribute::none(); 64],
+                }
             }
         }
-        i += 1;
     }
     Attributes {
-        end: Place::At(next),
+        end: Ok(next),
         attrs,
     }
 }
 
 // All values of an abbreviation's specifications, one after another.
+#[tactic(auto, unfolding(crate::specs::Attributes::read_attributes))]
 pub fn read_attributes(
     bytes: &[u8],
     start: usize,
@@ -166,16 +144,13 @@ pub fn read_attributes(
 ) -> Attributes
     ensures { view_attributes result ≡ stored entry_limit.most (read_attributes entry_limit.most bytes.now start encoding endian specs.now (found_of abbreviation) at) }
 {
-    if keeps_place(bytes.len(), start, at) {
-        if abbreviation.keeps_sizes(specs) {
-            let first = abbreviation.first;
-            let count = abbreviation.count;
-            return read_listed(bytes, start, at, encoding, endian, specs, first, count);
-        }
+    if keeps_place(bytes.len(), start, at) && abbreviation.keeps_sizes(specs) {
+        let first = abbreviation.first;
+        let count = abbreviation.count;
+        return read_listed(bytes, start, at, encoding, endian, specs, first, count);
     }
-    let none = Attribute::none();
     Attributes {
-        end: Place::Refused(Error::SizeLimit),
-        attrs: [none; 64],
+        end: Err(Error::SizeLimit),
+        attrs: [Attribute::none(); 64],
     }
 }

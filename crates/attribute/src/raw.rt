@@ -1,18 +1,18 @@
 // What stands in the bytes, by its form's layout.
 
-ghost use Rattle.std.specs.Prelude.{false, ◌||◌, ◌≡◌, ◌+◌, ◌^◌, ◌≤◌, ◌<◌, length};
+ghost use Rattle.std.specs.Prelude.{false, ◌≡◌, ◌+◌, ◌^◌, ◌≤◌, ◌<◌, length};
 ghost use Rattle.reader.specs.Leb128.{uleb_at};
-ghost use Rattle.reader.specs.Views.{view_word};
+ghost use Rattle.reader.specs.Views.{view_read};
 ghost use Rattle.abbrev.specs.Views.{specification_of};
 ghost use Rattle.attribute.specs.Padded.{unsigned, signed, is_padded, any_padded, layout_numbers, form_numbers};
-ghost use Rattle.attribute.specs.Read.{numbered, wide_at, signed_at, ref_addr_at, block_after, string_at, constant_of, raw_at, final_form, form_at, numbers_at};
+ghost use Rattle.attribute.specs.Read.{pair, numbered, wide_at, signed_at, ref_addr_at, block_after, string_at, constant_of, raw_at, final_form, form_at, numbers_at};
 ghost use Rattle.attribute.specs.Steps.{Within, noted};
-ghost use Rattle.attribute.specs.Views.{view_raw, view_final, view_form_value};
+ghost use Rattle.attribute.specs.Views.{noted_numbers, view_raw, view_final, view_form_value};
 
 use super::form::{Kind, Layout, row_of};
 use abbrev::lookup::AttributeSpecification;
 use abbrev::table::IMPLICIT_CONST;
-use reader::answer::{Bytes, Place, Signed, Unsigned, WideWord, Word};
+use reader::answer::Read;
 use reader::common::Encoding;
 use reader::endianity::RunTimeEndian;
 use reader::error::Error;
@@ -25,131 +25,126 @@ use reader::words::{read_u8, read_u16, read_u24, read_u32, read_u64, read_u128};
 
 pub(crate) const INDIRECT: u64 = 0x16;
 
-// A number, the next place, a second number, and whether a LEB128 number read for them is padded. The
-// numbers are not neighbours: loaded as one, they would wait for the stores of both.
-#[derive(Clone, Copy)]
-pub enum Raw {
-    Got(u64, usize, u64, bool),
-    Refused(Error),
+// A number, whether a LEB128 number read for it is padded, and a second number. The numbers are not
+// neighbours: loaded as one, they would wait for the stores of both.
+#[derive(Clone, Copy, Debug, PartialEq, Eq)]
+pub struct Raw {
+    pub low: u64,
+    pub padded: bool,
+    pub high: u64,
 }
 
 // The same behind a form's case.
-#[derive(Clone, Copy)]
-pub enum FormValue {
-    Got(Kind, u64, usize, u64, bool),
-    Refused(Error),
+#[derive(Clone, Copy, Debug, PartialEq, Eq)]
+pub struct FormValue {
+    pub kind: Kind,
+    pub low: u64,
+    pub padded: bool,
+    pub high: u64,
 }
 
-// A form, the next place, and whether a number that named a form before it is padded.
-#[derive(Clone, Copy)]
-pub enum Final {
-    Got(u64, usize, bool),
-    Refused(Error),
+// A form, and whether a number that named a form before it is padded.
+#[derive(Clone, Copy, Debug, PartialEq, Eq)]
+pub struct Final {
+    pub form: u64,
+    pub padded: bool,
 }
 
-fn either(a: bool, b: bool) -> bool
-    ensures { result ≡ a || b }
-{
-    if a { true } else { b }
-}
-
-fn number(read: Word) -> Raw
-    ensures { view_raw result ≡ noted false (numbered (view_word read)) }
-{
-    match read {
-        Word::Got(value, next) => Raw::Got(value, next, 0, false),
-        Word::Refused(e) => Raw::Refused(e),
+impl Raw {
+    fn new(low: u64, high: u64, padded: bool) -> Raw
+        ensures { noted_numbers result ≡ record { value = pair low high; padded = padded } }
+    {
+        Raw { low, padded, high }
     }
 }
 
-fn wide(bytes: &[u8], at: usize, endian: RunTimeEndian) -> Raw
+#[tactic(auto, unfolding(crate::specs::Read::numbered))]
+fn number(read: Read<u64>) -> Read<Raw>
+    ensures { view_raw result ≡ noted false (numbered (view_read read)) }
+{
+    let (low, next) = read?;
+    Ok((Raw::new(low, 0, false), next))
+}
+
+#[tactic(auto, unfolding(crate::specs::Read::wide_at))]
+fn wide(bytes: &[u8], at: usize, endian: RunTimeEndian) -> Read<Raw>
     ensures { view_raw result ≡ noted false (wide_at bytes.now at endian) }
 {
-    match read_u128(bytes, at, endian) {
-        WideWord::Got(low, high, next) => Raw::Got(low, next, high, false),
-        WideWord::Refused(e) => Raw::Refused(e),
-    }
+    let (halves, next) = read_u128(bytes, at, endian)?;
+    Ok((Raw::new(halves.low, halves.high, false), next))
 }
 
-fn unsigned(bytes: &[u8], at: usize) -> Raw
+#[tactic(auto, using(crate::proofs::PaddedLaws::counted_laws), unfolding(crate::specs::Read::numbered, crate::specs::Padded::is_padded))]
+fn unsigned(bytes: &[u8], at: usize) -> Read<Raw>
     ensures { view_raw result ≡ noted (is_padded bytes.now (unsigned 64 at)) (numbered (uleb_at bytes.now at 64)) }
 {
-    match read_uleb128(bytes, at) {
-        Unsigned::Got(value, next, _, padded) => Raw::Got(value, next, 0, padded),
-        Unsigned::Refused(e) => Raw::Refused(e),
-    }
+    let (value, next) = read_uleb128(bytes, at)?;
+    Ok((Raw::new(value.number, 0, value.padded), next))
 }
 
-fn signed(bytes: &[u8], at: usize) -> Raw
+#[tactic(auto, using(crate::proofs::PaddedLaws::counted_laws, std::proofs::lemmas::Int::ints), unfolding(crate::specs::Read::signed_at, crate::specs::Padded::is_padded))]
+fn signed(bytes: &[u8], at: usize) -> Read<Raw>
     ensures { view_raw result ≡ noted (is_padded bytes.now (signed 64 at)) (signed_at bytes.now at) }
 {
-    match read_sleb128(bytes, at) {
-        Signed::Got(value, next, _, padded) => Raw::Got(to_word(value), next, 0, padded),
-        Signed::Refused(e) => Raw::Refused(e),
-    }
+    let (value, next) = read_sleb128(bytes, at)?;
+    Ok((Raw::new(to_word(value.number), 0, value.padded), next))
 }
 
-fn read_ref_addr(bytes: &[u8], at: usize, encoding: Encoding, endian: RunTimeEndian) -> Word
-    ensures { view_word result ≡ ref_addr_at bytes.now at encoding endian }
+#[tactic(auto, unfolding(crate::specs::Read::ref_addr_at))]
+fn read_ref_addr(bytes: &[u8], at: usize, encoding: Encoding, endian: RunTimeEndian) -> Read<u64>
+    ensures { view_read result ≡ ref_addr_at bytes.now at encoding endian }
 {
-    let format = encoding.format;
     if encoding.version == 2 {
-        return read_sized_offset(bytes, at, encoding.address_size, endian);
+        read_sized_offset(bytes, at, encoding.address_size, endian)
+    } else {
+        read_offset(bytes, at, encoding.format, endian)
     }
-    read_offset(bytes, at, format, endian)
 }
 
 // The bytes that follow their count.
-fn block(bytes: &[u8], start: usize, count: Word, padded: bool) -> Raw
+#[tactic(auto, using(reader::proofs::FieldLaws::skip_in), unfolding(crate::specs::Read::block_after))]
+fn block(bytes: &[u8], start: usize, count: Read<u64>, padded: bool) -> Read<Raw>
     requires { start + length bytes.now < 2 ^ 63 }
-    ensures { view_raw result ≡ noted padded (block_after bytes.now start (view_word count)) }
+    ensures { view_raw result ≡ noted padded (block_after bytes.now start (view_read count)) }
 {
-    match count {
-        Word::Got(len, at) => match skip(bytes, at, len) {
-            Place::At(next) => {
-                let place = (start + at) as u64;
-                Raw::Got(place, next, len, padded)
-            }
-            Place::Refused(e) => Raw::Refused(e),
-        },
-        Word::Refused(e) => Raw::Refused(e),
-    }
+    let (len, at) = count?;
+    let next = skip(bytes, at, len)?;
+    Ok((Raw::new((start + at) as u64, len, padded), next))
 }
 
 // The same after a LEB128 number.
-fn measured(bytes: &[u8], start: usize, at: usize) -> Raw
+#[tactic(auto, using(crate::proofs::PaddedLaws::counted_laws), unfolding(crate::specs::Read::block_after, crate::specs::Padded::is_padded))]
+fn measured(bytes: &[u8], start: usize, at: usize) -> Read<Raw>
     requires { start + length bytes.now < 2 ^ 63 }
     ensures { view_raw result ≡ noted (is_padded bytes.now (unsigned 64 at)) (block_after bytes.now start (uleb_at bytes.now at 64)) }
 {
-    match read_uleb128(bytes, at) {
-        Unsigned::Got(len, next, _, padded) => block(bytes, start, Word::Got(len, next), padded),
-        Unsigned::Refused(e) => Raw::Refused(e),
-    }
+    let (count, next) = read_uleb128(bytes, at)?;
+    block(bytes, start, Ok((count.number, next)), count.padded)
 }
 
-fn string(bytes: &[u8], start: usize, at: usize) -> Raw
+#[tactic(auto, using(reader::proofs::FieldLaws::null_in), unfolding(crate::specs::Read::string_at))]
+fn string(bytes: &[u8], start: usize, at: usize) -> Read<Raw>
     requires { start + length bytes.now < 2 ^ 63 }
     ensures { view_raw result ≡ noted false (string_at bytes.now start at) }
 {
-    match read_null_terminated_slice(bytes, at) {
-        Bytes::Got(from, len, next) => {
-            let place = (start + from) as u64;
-            Raw::Got(place, next, len as u64, false)
-        }
-        Bytes::Refused(e) => Raw::Refused(e),
-    }
+    let (span, next) = read_null_terminated_slice(bytes, at)?;
+    Ok((
+        Raw::new((start + span.start) as u64, span.len as u64, false),
+        next,
+    ))
 }
 
-fn constant(spec: AttributeSpecification, at: usize) -> Raw
+#[tactic(auto, unfolding(crate::specs::Read::constant_of))]
+fn constant(spec: AttributeSpecification, at: usize) -> Read<Raw>
     ensures { view_raw result ≡ noted false (constant_of (specification_of spec) at) }
 {
-    let form = spec.form;
-    if (form as u64) == IMPLICIT_CONST {
-        return Raw::Got(spec.constant, at, 0, false);
+    if u64::from(spec.form) == IMPLICIT_CONST {
+        return Ok((Raw::new(spec.constant, 0, false), at));
     }
-    Raw::Refused(Error::InvalidImplicitConst)
+    Err(Error::InvalidImplicitConst)
 }
 
+#[tactic(auto, using(reader::proofs::WordLaws::word_one), unfolding(crate::specs::Read::raw_at, crate::specs::Padded::layout_numbers, crate::specs::Padded::any_padded))]
 fn raw_at(
     bytes: &[u8],
     start: usize,
@@ -158,11 +153,10 @@ fn raw_at(
     spec: AttributeSpecification,
     layout: Layout,
     at: usize,
-) -> Raw
+) -> Read<Raw>
     requires { start + length bytes.now < 2 ^ 63 }
     ensures { view_raw result ≡ noted (any_padded bytes.now (layout_numbers layout at)) (raw_at bytes.now start encoding endian (specification_of spec) layout at) }
 {
-    let format = encoding.format;
     match layout {
         Layout::U8 => number(read_u8(bytes, at)),
         Layout::U16 => number(read_u16(bytes, at, endian)),
@@ -170,7 +164,7 @@ fn raw_at(
         Layout::U32 => number(read_u32(bytes, at, endian)),
         Layout::U64 => number(read_u64(bytes, at, endian)),
         Layout::U128 => wide(bytes, at, endian),
-        Layout::Offset => number(read_offset(bytes, at, format, endian)),
+        Layout::Offset => number(read_offset(bytes, at, encoding.format, endian)),
         Layout::Address => number(read_address(bytes, at, encoding.address_size, endian)),
         Layout::RefAddr => number(read_ref_addr(bytes, at, encoding, endian)),
         Layout::Uleb128 => unsigned(bytes, at),
@@ -180,14 +174,15 @@ fn raw_at(
         Layout::Block4 => block(bytes, start, read_u32(bytes, at, endian), false),
         Layout::Block => measured(bytes, start, at),
         Layout::NullTerminated => string(bytes, start, at),
-        Layout::Present => Raw::Got(1, at, 0, false),
+        Layout::Present => Ok((Raw::new(1, 0, false), at)),
         Layout::ImplicitConst => constant(spec, at),
-        Layout::Unknown => Raw::Refused(Error::UnknownForm),
+        Layout::Unknown => Err(Error::UnknownForm),
     }
 }
 
 // The form that a form is in the end: DW_FORM_indirect names another one in the bytes.
-pub(crate) fn final_form(bytes: &[u8], form: u64, at: usize) -> Final
+#[tactic(auto, using(crate::proofs::PaddedLaws::named_laws))]
+pub(crate) fn final_form(bytes: &[u8], form: u64, at: usize) -> Read<Final>
     requires { at ≤ length bytes.now }
     ensures { view_final result ≡ noted (any_padded bytes.now (form_numbers bytes.now form at)) (final_form bytes.now form at) }
 {
@@ -195,20 +190,15 @@ pub(crate) fn final_form(bytes: &[u8], form: u64, at: usize) -> Final
     let mut next = at;
     let mut padded = false;
     while last == INDIRECT {
-        match read_uleb128_u16(bytes, next) {
-            Unsigned::Got(named, after, _, more) => {
-                last = named;
-                next = after;
-                padded = either(padded, more);
-            }
-            Unsigned::Refused(e) => {
-                return Final::Refused(e);
-            }
-        }
+        let (named, after) = read_uleb128_u16(bytes, next)?;
+        last = named.number;
+        next = after;
+        padded |= named.padded;
     }
-    Final::Got(last, next, padded)
+    Ok((Final { form: last, padded }, next))
 }
 
+#[tactic(auto, using(crate::proofs::PaddedLaws::form_stopped, crate::proofs::PaddedLaws::final_plainly), unfolding(crate::specs::Read::form_at))]
 pub(crate) fn form_at(
     bytes: &[u8],
     start: usize,
@@ -216,24 +206,18 @@ pub(crate) fn form_at(
     endian: RunTimeEndian,
     spec: AttributeSpecification,
     at: usize,
-) -> FormValue
+) -> Read<FormValue>
     requires { Within (length bytes.now) start at }
     ensures { view_form_value result ≡ noted (any_padded bytes.now (numbers_at bytes.now spec.form at)) (form_at bytes.now start encoding endian (specification_of spec) at) }
 {
-    let form = spec.form;
-    match final_form(bytes, form as u64, at) {
-        Final::Got(last, next, named) => {
-            let found = row_of(last);
-            let layout = found.layout;
-            let kind = found.kind;
-            match raw_at(bytes, start, encoding, endian, spec, layout, next) {
-                Raw::Got(low, after, high, padded) => {
-                    let any = either(named, padded);
-                    FormValue::Got(kind, low, after, high, any)
-                }
-                Raw::Refused(e) => FormValue::Refused(e),
-            }
-        }
-        Final::Refused(e) => FormValue::Refused(e),
-    }
+    let (last, next) = final_form(bytes, u64::from(spec.form), at)?;
+    let row = row_of(last.form);
+    let (raw, after) = raw_at(bytes, start, encoding, endian, spec, row.layout, next)?;
+    let value = FormValue {
+        kind: row.kind,
+        low: raw.low,
+        padded: last.padded | raw.padded,
+        high: raw.high,
+    };
+    Ok((value, after))
 }

@@ -12,7 +12,7 @@ use reader::twos::{from_word, to_word};
 
 // gimli's `AttributeValue`, the cases that reading gives. A block, expression or string is its place,
 // counted like an entry's offset, and its length; a `Data16` its low and its high 64 bits.
-#[derive(Clone, Copy)]
+#[derive(Clone, Copy, Debug, PartialEq, Eq)]
 pub enum AttributeValue {
     Addr(u64),
     Block(u64, u64),
@@ -40,7 +40,7 @@ pub enum AttributeValue {
     String(u64, u64),
 }
 
-#[derive(Clone, Copy)]
+#[derive(Clone, Copy, Debug, PartialEq, Eq)]
 pub struct Attribute {
     pub name: u16,
     pub form: u16,
@@ -64,61 +64,44 @@ impl Attribute {
 }
 
 // A value's case and its numbers; a second number that it does not have is 0.
-#[derive(Clone, Copy)]
+#[derive(Clone, Copy, Debug, PartialEq, Eq)]
 pub struct Value {
     pub kind: Kind,
     pub low: u64,
     pub high: u64,
 }
 
-#[derive(Clone, Copy)]
-pub enum Number {
-    Value(u64),
-    Absent,
-}
-
-// A place and a length.
-#[derive(Clone, Copy)]
-pub enum Part {
-    At(u64, u64),
-    Absent,
+impl Value {
+    fn new(kind: Kind, low: u64, high: u64) -> Value
+        ensures { result ≡ value kind low high }
+    {
+        Value { kind, low, high }
+    }
 }
 
 // gimli's `allow_section_offset`.
+#[tactic(auto, unfolding(crate::specs::Value::allow_section_offset))]
 fn allow_section_offset(name: u16, version: u16) -> bool
     ensures { result ≡ allow_section_offset name version }
 {
     match name {
-        0x02 => true,
-        0x10 => true,
-        0x19 => true,
-        0x2a => true,
-        0x2c => true,
-        0x40 => true,
-        0x43 => true,
-        0x46 => true,
-        0x48 => true,
-        0x4a => true,
-        0x4d => true,
-        0x55 => true,
-        0x79 => true,
-        0x38 => if version == 2 { true } else { version == 3 },
+        0x02 | 0x10 | 0x19 | 0x2a | 0x2c | 0x40 | 0x43 | 0x46 | 0x48 | 0x4a | 0x4d | 0x55 | 0x79 =>
+            true,
+        0x38 => matches!(version, 2 | 3),
         _ => false,
     }
 }
 
 // Whether forms 06 and 07, of `size` bytes, are an offset into a section.
+#[tactic(auto, unfolding(crate::specs::Value::is_section_offset))]
 fn is_section_offset(encoding: Encoding, name: u16, size: u8) -> bool
     ensures { result ≡ is_section_offset encoding name size }
 {
-    let format = encoding.format;
-    if size == format.word_size() {
-        return allow_section_offset(name, encoding.version);
-    }
-    false
+    size == encoding.format.word_size() && allow_section_offset(name, encoding.version)
 }
 
 // The value of a form's case under a name.
+#[tactic(auto, using(crate::proofs::FormLaws::no_offset, crate::proofs::FormLaws::flag_of, crate::proofs::ValueLaws::word_kept), unfolding(crate::specs::Value::value_under))]
 pub(crate) fn value_of(
     encoding: Encoding,
     name: u16,
@@ -166,131 +149,35 @@ pub(crate) fn value_of(
 }
 
 impl AttributeValue {
-    // The same by its numbers.
-    pub(crate) fn fitted(self) -> Value
-        ensures { (result ≡ view_value self) × Fits result.kind result.low result.high }
+    // Its case and its numbers.
+    pub fn numbers(self) -> Value
+        ensures { result ≡ view_value self }
     {
         match self {
-            AttributeValue::Addr(n) => Value {
-                kind: Kind::Addr,
-                low: n,
-                high: 0,
-            },
-            AttributeValue::Block(a, b) => Value {
-                kind: Kind::Block,
-                low: a,
-                high: b,
-            },
-            AttributeValue::Data1(n) => Value {
-                kind: Kind::Data1,
-                low: n as u64,
-                high: 0,
-            },
-            AttributeValue::Data2(n) => Value {
-                kind: Kind::Data2,
-                low: n as u64,
-                high: 0,
-            },
-            AttributeValue::Data4(n) => Value {
-                kind: Kind::Data4,
-                low: n as u64,
-                high: 0,
-            },
-            AttributeValue::Data8(n) => Value {
-                kind: Kind::Data8,
-                low: n,
-                high: 0,
-            },
-            AttributeValue::Data16(a, b) => Value {
-                kind: Kind::Data16,
-                low: a,
-                high: b,
-            },
-            AttributeValue::Sdata(z) => Value {
-                kind: Kind::Sdata,
-                low: to_word(z),
-                high: 0,
-            },
-            AttributeValue::Udata(n) => Value {
-                kind: Kind::Udata,
-                low: n,
-                high: 0,
-            },
-            AttributeValue::Exprloc(a, b) => Value {
-                kind: Kind::Exprloc,
-                low: a,
-                high: b,
-            },
-            AttributeValue::Flag(b) => Value {
-                kind: Kind::Flag,
-                low: if b { 1 } else { 0 },
-                high: 0,
-            },
-            AttributeValue::SecOffset(n) => Value {
-                kind: Kind::SecOffset,
-                low: n,
-                high: 0,
-            },
-            AttributeValue::DebugAddrIndex(n) => Value {
-                kind: Kind::DebugAddrIndex,
-                low: n,
-                high: 0,
-            },
-            AttributeValue::UnitRef(n) => Value {
-                kind: Kind::UnitRef,
-                low: n,
-                high: 0,
-            },
-            AttributeValue::DebugInfoRef(n) => Value {
-                kind: Kind::DebugInfoRef,
-                low: n,
-                high: 0,
-            },
-            AttributeValue::DebugInfoRefSup(n) => Value {
-                kind: Kind::DebugInfoRefSup,
-                low: n,
-                high: 0,
-            },
-            AttributeValue::DebugLocListsIndex(n) => Value {
-                kind: Kind::DebugLocListsIndex,
-                low: n,
-                high: 0,
-            },
-            AttributeValue::DebugRngListsIndex(n) => Value {
-                kind: Kind::DebugRngListsIndex,
-                low: n,
-                high: 0,
-            },
-            AttributeValue::DebugTypesRef(n) => Value {
-                kind: Kind::DebugTypesRef,
-                low: n,
-                high: 0,
-            },
-            AttributeValue::DebugStrRef(n) => Value {
-                kind: Kind::DebugStrRef,
-                low: n,
-                high: 0,
-            },
-            AttributeValue::DebugStrRefSup(n) => Value {
-                kind: Kind::DebugStrRefSup,
-                low: n,
-                high: 0,
-            },
-            AttributeValue::DebugStrOffsetsIndex(n) => Value {
-                kind: Kind::DebugStrOffsetsIndex,
-                low: n,
-                high: 0,
-            },
-            AttributeValue::DebugLineStrRef(n) => Value {
-                kind: Kind::DebugLineStrRef,
-                low: n,
-                high: 0,
-            },
-            AttributeValue::String(a, b) => Value {
-                kind: Kind::String,
-                low: a,
-                high: b,
-            },
+            AttributeValue::Addr(n) => Value::new(Kind::Addr, n, 0),
+            AttributeValue::Block(start, len) => Value::new(Kind::Block, start, len),
+            AttributeValue::Data1(n) => Value::new(Kind::Data1, u64::from(n), 0),
+            AttributeValue::Data2(n) => Value::new(Kind::Data2, u64::from(n), 0),
+            AttributeValue::Data4(n) => Value::new(Kind::Data4, u64::from(n), 0),
+            AttributeValue::Data8(n) => Value::new(Kind::Data8, n, 0),
+            AttributeValue::Data16(low, high) => Value::new(Kind::Data16, low, high),
+            AttributeValue::Sdata(z) => Value::new(Kind::Sdata, to_word(z), 0),
+            AttributeValue::Udata(n) => Value::new(Kind::Udata, n, 0),
+            AttributeValue::Exprloc(start, len) => Value::new(Kind::Exprloc, start, len),
+            AttributeValue::Flag(b) => Value::new(Kind::Flag, u64::from(b), 0),
+            AttributeValue::SecOffset(n) => Value::new(Kind::SecOffset, n, 0),
+            AttributeValue::DebugAddrIndex(n) => Value::new(Kind::DebugAddrIndex, n, 0),
+            AttributeValue::UnitRef(n) => Value::new(Kind::UnitRef, n, 0),
+            AttributeValue::DebugInfoRef(n) => Value::new(Kind::DebugInfoRef, n, 0),
+            AttributeValue::DebugInfoRefSup(n) => Value::new(Kind::DebugInfoRefSup, n, 0),
+            AttributeValue::DebugLocListsIndex(n) => Value::new(Kind::DebugLocListsIndex, n, 0),
+            AttributeValue::DebugRngListsIndex(n) => Value::new(Kind::DebugRngListsIndex, n, 0),
+            AttributeValue::DebugTypesRef(n) => Value::new(Kind::DebugTypesRef, n, 0),
+            AttributeValue::DebugStrRef(n) => Value::new(Kind::DebugStrRef, n, 0),
+            AttributeValue::DebugStrRefSup(n) => Value::new(Kind::DebugStrRefSup, n, 0),
+            AttributeValue::DebugStrOffsetsIndex(n) => Value::new(Kind::DebugStrOffsetsIndex, n, 0),
+            AttributeValue::DebugLineStrRef(n) => Value::new(Kind::DebugLineStrRef, n, 0),
+            AttributeValue::String(start, len) => Value::new(Kind::String, start, len),
         }
     }
 }

@@ -1,8 +1,0 @@
-use borrow.Author.Tests.{ne_eqb, eq-eqb}
-use Rattle.attribute.proofs.pass.pass_constant.Goals as goal
-
-pub returns-then-form-eq-IMPLICIT_CONST : goal.returns-then-form-eq-IMPLICIT_CONST
-returns-then-form-eq-IMPLICIT_CONST c = rw (eq-eqb _ 0x21 c.if-form-eq-IMPLICIT_CONST.true)
-
-pub returns : goal.returns
-returns c = rw (ne_eqb _ 0x21 c.if-form-eq-IMPLICIT_CONST.false)
