@@ -1,11 +1,11 @@
 -- Laws of the cursor's calls.
-use mathlib.Core.Bool.{Bool, true, false, ◌&&◌}
+use mathlib.Core.Bool.{Bool, true, false, ◌&&◌, ◌||◌}
 use mathlib.Core.Path.{◌≡◌, refl, sym, ap, ◌∙◌}
 use mathlib.Core.List.{List}
 use Prim.Native.Nat.{ℕ, ◌≤◌}
 use borrow.Author.Tests.{leb-true}
 use lib.Dec.{leb}
-use lib.IntN.{ℤ, nat_abs}
+use lib.IntN.{nat_abs}
 use lib.ListN.{length}
 use Rattle.reader.specs.Answer.{Answer, got, refused}
 use Rattle.attribute.proofs.FormLaws.{both}
@@ -61,6 +61,11 @@ module _ (most : ℕ) (s rows specs : List ℕ) where
     held_null true h = held_read h
     held_null false h = held_settled h
 
+    -- an entry is the answer, a null where nulls are
+    pub held_asked : (nulls b : Bool) → x.answer ≡ got b → ◌≡◌ {A = Called} (record { answer = got (b || nulls); cursor = record { input = x.raw; entry = x.entry } }) (asked_as nulls (held most s rows specs w (item_next most s rows specs w)))
+    held_asked nulls true h = held_entry nulls h
+    held_asked nulls false h = held_null nulls h
+
     pub held_refused : {n : ℕ} → x.answer ≡ refused n → held most s rows specs w (refused n) ≡ held most s rows specs w (item_next most s rows specs w)
     held_refused h = ap (held most s rows specs w) (sym (was_refused most s rows specs w k e h))
 
@@ -70,10 +75,10 @@ module _ (most : ℕ) (s rows specs : List ℕ) where
     refused_asked false h = ap settled (held_refused h)
 
   -- what is reached where items were passed to is what was sought
-  pub arrived_at : (from : Cursor → EntriesRaw) (forward : (c : Cursor) → c.input.position ≤ (from c).position) (wanted : Entry → Bool) (c : Cursor) (p q : Passing)
-      → p.raw ≡ from c → p.offset ≡ c.entry.offset → p.depth ≡ c.entry.depth → Arrived most s rows specs from wanted p q
+  pub arrived_at : (from : Cursor → EntriesRaw) (forward : (c : Cursor) → c.input.position ≤ (from c).position) (wanted : Entry → Bool) (c : Cursor) {p q : Passing}
+      → p ≡ record { raw = from c; offset = c.entry.offset; depth = c.entry.depth } → Arrived most s rows specs from wanted p q
       → settled (advanced most s rows specs q.raw q.offset q.depth) ≡ seek most s rows specs from wanted c
-  arrived_at from forward wanted c p q a b d t =
+  arrived_at from forward wanted c e t =
       sym t.same
-      ∙ ap (go_on wanted (seek most s rows specs from wanted)) (ap (λ (w : EntriesRaw). advanced most s rows specs w p.offset p.depth) a ∙ ap (λ (o : ℕ). advanced most s rows specs (from c) o p.depth) b ∙ ap (λ (z : ℤ). advanced most s rows specs (from c) c.entry.offset z) d)
+      ∙ ap (λ (p : Passing). go_on wanted (seek most s rows specs from wanted) (advanced most s rows specs p.raw p.offset p.depth)) e
       ∙ sym (seek_step most s rows specs from forward wanted c)

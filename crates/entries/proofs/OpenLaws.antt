@@ -13,8 +13,9 @@ use Rattle.reader.proofs.Answers.{then_then}
 use Rattle.abbrev.specs.Rows.{Blank}
 use Rattle.abbrev.specs.Table.{entry_limit, abbreviations_at}
 use Rattle.abbrev.specs.Tabled.{Tabled}
-use Rattle.abbrev.specs.Views.{view_abbreviations}
-use Rattle.abbrev.specs.declared.table.Abbreviations.{Abbreviations}
+use Rattle.reader.specs.Views.{view}
+use Rattle.std.specs.Prelude.{Result}
+use Rattle.reader.specs.declared.error.Error.{Error}
 use Rattle.unit.specs.Parse.{UnitSection, header_at}
 use Rattle.unit.specs.declared.header.UnitHeader.{UnitHeader}
 use Rattle.entries.specs.Open.{or_no_unit, own_unit, sections_kept, own_table, unit_from}
@@ -42,7 +43,7 @@ module _ {sec : UnitSection} {abbrevs units : List ℕ} {offset : ℕ} {e : RunT
 
   module _ (k : length abbrevs ≤ max_section) where
     -- a header was read, and then the table that it points to, or that refused
-    pub with_header : {h : UnitHeader} {p : ℕ} {t : Abbreviations} → header_at sec units offset e ≡ gives h p → Tabled abbrevs h.debug_abbrev_offset rows₀ specs₀ rows specs t → view_opened_unit r ≡ or_no_unit entry_limit.most e (and_then (view_abbreviations t) (λ n. got (own_unit entry_limit.most h e))) → Opened sec abbrevs units offset e rows₀ specs₀ rows specs r
+    pub with_header : {h : UnitHeader} {p : ℕ} {t : Result ℕ Error} → header_at sec units offset e ≡ gives h p → Tabled abbrevs h.debug_abbrev_offset rows₀ specs₀ rows specs t → view_opened_unit r ≡ or_no_unit entry_limit.most e (and_then (view t) (λ n. got (own_unit entry_limit.most h e))) → Opened sec abbrevs units offset e rows₀ specs₀ rows specs r
     unfolding own_table unit_from
     with_header {h} a b v =
         record {

@@ -3,22 +3,23 @@ use mathlib.Core.Bool.{Bool, true, false, cond, ◌||◌}
 use mathlib.Core.Path.{◌≡◌, refl, sym, ap, subst, ◌∙◌}
 use mathlib.Core.List.{List, [], ◌∷◌}
 use mathlib.Core.Option.{Option, none, some}
-use Prim.Native.Nat.{ℕ, zero, suc, ◌+◌, ◌-◌, ◌*◌, ◌≤◌, ◌<◌}
+use Prim.Native.Nat.{ℕ, zero, suc, ◌+◌, ◌≤◌, ◌<◌}
 use native.Mathlib.Omega.{arith}
-use borrow.Author.Tests.{eq-eqb, ne_eqb, eqb-false}
+use borrow.Author.Tests.{ne_eqb, eqb-false}
 use lib.Dec.{eqb}
 use lib.IntN.{ℤ, pos, nat_abs, ◌-ℤ◌}
 use native.Mathlib.Nat.{le_refl}
-use lib.ListN.{length, get_or, take, drop}
-use lib.Seq.{get_or-drop, drop-drop}
+use lib.ListN.{length, take}
 use Rattle.reader.specs.Answer.{Answer, got, refused, and_then, Read, gives, end_of, Holds}
 use Rattle.reader.specs.Leb128.{uleb_at}
 use Rattle.reader.specs.declared.common.Encoding.{Encoding}
 use Rattle.reader.specs.declared.endianity.RunTimeEndian.{RunTimeEndian}
+use Rattle.reader.proofs.Accepted.{uleb_ends}
 use Rattle.reader.proofs.Answers.{holds_then, holds_map}
-use Rattle.abbrev.specs.Lookup.{Found, keeps_sizes, specs_from, declaration_of}
+use Rattle.abbrev.specs.Lookup.{Found, keeps_sizes, declaration_of}
 use Rattle.abbrev.specs.Table.{Specification}
-use Rattle.attribute.specs.Attributes.{pad, read_attributes}
+use Rattle.abbrev.proofs.Lookups.{kept}
+use Rattle.attribute.specs.Attributes.{pad}
 use Rattle.attribute.specs.Read.{form_at, attribute_at, attributes_at}
 use Rattle.attribute.specs.Value.{Attribute}
 use Rattle.attribute.specs.declared.value.Value.{Value}
@@ -26,48 +27,16 @@ use Rattle.attribute.proofs.FormLaws.{true_false}
 use Rattle.attribute.proofs.ListLaws.{read_kept}
 use Rattle.entries.specs.Cursor.{Cursor, jumped, plainly, by_jump, is_entry, stands_at, depth_past, item_next}
 use Rattle.entries.specs.Entry.{Entry, null_entry, entry_of, named, attr_of, sibling, sibling_of, jump_of}
-use Rattle.entries.specs.Pass.{Passed, passed_to, told}
-use Rattle.entries.specs.Raw.{keeps_raw, moved_to, Moved, moves, source_of, Taken, taken as taken_from, raw_entry}
+use Rattle.entries.specs.Pass.{Passed, told_if, told}
+use Rattle.entries.specs.Raw.{keeps_raw, moved_to, Moved, source_of, Taken, taken as taken_from, raw_entry}
 use Rattle.entries.specs.Read.{abbreviation_at, raised, depth_after, entry_after, entry_at, same_depth}
-use Rattle.entries.specs.Steps.{KeptRaw, names_any, past_values, past_plain, past_item, passed_item, Arrived}
+use Rattle.entries.specs.Steps.{KeptRaw, names_any, HasSpecs, may_jump, if_got, depth_by, passed_code, past_item, passed_item, Arrived}
 use Rattle.entries.specs.declared.pass.Passing.{Passing}
 use Rattle.entries.specs.declared.raw.EntriesRaw.{EntriesRaw}
 use Rattle.entries.proofs.EntryLaws.{jump_with, jump_without}
-use Rattle.entries.proofs.RawLaws.{raw_kept, abbreviation_in, found_keeps, tagged}
+use Rattle.entries.proofs.RawLaws.{raw_kept, raw_keeps, abbreviation_in, found_keeps, tagged}
 use Rattle.entries.proofs.SeekLaws.{jump_forward, jump_kept, jump_none, stands, item_kept, was_read, was_refused, code_null, null_next, entry_next, Sought, sought_found, sought_further}
 use Rattle.entries.proofs.FlatLaws.{Stands}
-
--- ---- names of specifications
-
--- none of the first i has the name
-pub record Unnamed (n : ℕ) (l : List ℕ) (first count i : ℕ) : Type 0 where
-  pub most : i ≤ count
-  pub is : names_any n (specs_from count (drop (first * 3) l)) ≡ names_any n (specs_from (count - i) (drop ((first + i) * 3) l))
-
-pub unnamed_begun : (n : ℕ) (l : List ℕ) (first count : ℕ) → Unnamed n l first count 0
-unnamed_begun n l first count =
-    let e : count - 0 ≡ count = omega arith in
-    let f : first + 0 ≡ first = omega arith in
-    record { most = omega arith; is = rw (e, f) }
-
-module _ {n : ℕ} {l : List ℕ} {first count i : ℕ} (t : Unnamed n l first count i) where
-  pub unnamed_ended : count ≤ i → false ≡ names_any n (specs_from count (drop (first * 3) l))
-  unnamed_ended h = let e : count - i ≡ 0 = omega arith in rw (t.is, e)
-
-  module _ (h : i < count) where
-    one : count - i ≡ suc (count - (i + 1))
-    one = omega arith
-
-    name : get_or (drop ((first + i) * 3) l) 0 0 ≡ get_or l ((first + i) * 3) 0
-    name = let f : (first + i) * 3 + 0 ≡ (first + i) * 3 = omega arith in rw (get_or-drop, f)
-
-    pub unnamed_here : get_or l ((first + i) * 3) 0 ≡ n → true ≡ names_any n (specs_from count (drop (first * 3) l))
-    unnamed_here k = rw (t.is, one, name, eq-eqb _ n k)
-
-    pub unnamed_further : (get_or l ((first + i) * 3) 0 ≡ n → ⊥) → Unnamed n l first count (i + 1)
-    unnamed_further k =
-        let f : (first + (i + 1)) * 3 ≡ (first + i) * 3 + 3 = omega arith in
-        record { most = omega arith; is = rw (t.is, one, name, ne_eqb _ n k, drop-drop 3 ((first + i) * 3) l, f) }
 
 -- ---- an entry without a name has no such attribute
 
@@ -132,7 +101,7 @@ module _ (most : ℕ) (s rows specs : List ℕ) (w : EntriesRaw) where
   unfolding passed_item entry_at
   passed_refused e = rw e
 
-  pub passed_null : {p : ℕ} → code ≡ gives none p → some (moved_to w p (w.depth -ℤ pos 1)) ≡ passed
+  passed_null : {p : ℕ} → code ≡ gives none p → if_got (passed_code most s specs w none p) ≡ passed
   unfolding passed_item entry_at entry_after
   passed_null {p} e =
       rw e
@@ -143,7 +112,7 @@ module _ (most : ℕ) (s rows specs : List ℕ) (w : EntriesRaw) where
     values = attributes_at s w.start w.encoding w.endian (declaration_of specs f).specifications p
 
     -- its values are all that is passed
-    pub passed_plain : cond (eqb f.children 1) (names_any sibling (declaration_of specs f).specifications) false ≡ false → past_plain most s specs w f p ≡ passed
+    passed_plain : cond (eqb f.children 1) (names_any sibling (declaration_of specs f).specifications) false ≡ false → if_got (passed_code most s specs w (some f) p) ≡ passed
     unfolding passed_item entry_at entry_after attr_of
     passed_plain h =
         rw (read_kept most s w.start w.encoding w.endian specs f p (rw a at (abbreviation_in most s rows specs w.position)).1 k.short (found_keeps most s rows specs w.position a), a)
@@ -164,13 +133,22 @@ module _ (most : ℕ) (s rows specs : List ℕ) (w : EntriesRaw) where
         bare = at_value values free
 
         go : (r : Answer (Read (List Attribute))) → Holds (λ v. Free v.value) r
-            → past_values w f (end_of r) ≡ past_item (length s) w (raised f.children w.depth) (and_then r (λ v. gives (entry_of most (w.start + w.position) w.depth f v.value) v.next))
+            → if_got (and_then (end_of r) (λ q. got (moved_to w q (depth_by (some f) w.depth)))) ≡ past_item (length s) w (raised f.children w.depth) (and_then r (λ v. gives (entry_of most (w.start + w.position) w.depth f v.value) v.next))
         go (got v) b =
             ap some
             (sym
             (jump_none (length s) (moved_to w v.next (raised f.children w.depth)) (entry_of most (w.start + w.position) w.depth f v.value)
             (jumpless (entry_of most (w.start + w.position) w.depth f v.value) (λ q. b q f.count most))))
         go (refused n) b = refl
+
+  -- what a code stands for is all that is passed
+  pub passed_by_code : (o : Option Found) (p : ℕ) → KeptRaw (length s) w → gives o p ≡ code → may_jump specs o ≡ false → if_got (passed_code most s specs w o p) ≡ passed
+  passed_by_code none p k e h = passed_null (sym e)
+  passed_by_code (some f) p k e h = passed_plain k (sym e) h
+
+  pub has_specs : (o : Option Found) (p : ℕ) → gives o p ≡ code → HasSpecs specs o
+  has_specs none p e = tt
+  has_specs (some f) p e = (kept most specs f (found_keeps most s rows specs w.position (sym e))).inside
 
   -- an item read whole
   module _ (k : KeptRaw (length s) w) {x : Taken} (e : x ≡ raw_entry most w s rows specs) where
@@ -188,36 +166,39 @@ module _ (most : ℕ) (s rows specs : List ℕ) (w : EntriesRaw) where
 
 -- ---- what is told of an item passed is what reading it whole would tell
 
+-- what is told of what a code stands for, and the state behind it; a refusal keeps the one before
+abbrev pub told_at : EntriesRaw → Option Found → Answer EntriesRaw → Moved (Option Passed)
+told_at w o (got v) = record { answer = got (told_if o); raw = v }
+told_at w o (refused n) = record { answer = refused n; raw = w }
+
 module _ (most : ℕ) (w : EntriesRaw) (s rows specs : List ℕ) (h : keeps_raw (length s) w ≡ true) where
   pub told_refused : {n : ℕ} → abbreviation_at most s rows specs w.position ≡ refused n → ◌≡◌ {A = Moved (Option Passed)} (record { answer = refused n; raw = w }) (told (raw_entry most w s rows specs))
   unfolding raw_entry entry_at
   told_refused e = rw (h, e)
 
-  pub told_null : {p : ℕ} → abbreviation_at most s rows specs w.position ≡ gives none p
-      → ◌≡◌ {A = Moved (Option Passed)} (record { answer = got none; raw = moved_to w p (w.depth -ℤ pos 1) }) (told (raw_entry most w s rows specs))
+  told_code : (o : Option Found) (p : ℕ) → gives o p ≡ abbreviation_at most s rows specs w.position → told_at w o (passed_code most s specs w o p) ≡ told (raw_entry most w s rows specs)
   unfolding raw_entry entry_at entry_after
-  told_null e = rw (h, e)
-
-  pub told_found : {f : Found} {p : ℕ} → abbreviation_at most s rows specs w.position ≡ gives (some f) p
-      → moves w (raised f.children w.depth) (passed_to f (end_of (read_attributes most s w.start w.encoding w.endian specs f p))) ≡ told (raw_entry most w s rows specs)
-  unfolding raw_entry entry_at entry_after
-  told_found {f} {p} a =
-      rw (h, a, read_kept most s w.start w.encoding w.endian specs f p (rw a at (abbreviation_in most s rows specs w.position)).1 (raw_kept (length s) w h).short keeps)
+  told_code none p a = rw (h, ← a)
+  told_code (some f) p a =
+      rw (h, ← a, read_kept most s w.start w.encoding w.endian specs f p (rw (← a) at (abbreviation_in most s rows specs w.position)).1 (raw_kept (length s) w h).short keeps)
       (by (attributes_at s w.start w.encoding w.endian (declaration_of specs f).specifications p))
     where
       keeps : keeps_sizes most specs f ≡ true
-      keeps = found_keeps most s rows specs w.position a
+      keeps = found_keeps most s rows specs w.position (sym a)
 
       by : (r : Answer (Read (List Attribute)))
-          → moves w (raised f.children w.depth) (passed_to f (end_of r))
+          → told_at w (some f) (and_then (end_of r) (λ q. got (moved_to w q (depth_by (some f) w.depth))))
           ≡ told (taken_from most w (raised f.children w.depth) (and_then r (λ v. gives (entry_of most (w.start + w.position) w.depth f v.value) v.next)))
       by (got v) = rw (ne_eqb f.tag 0 (λ y. omega (arith, y, tagged most specs f keeps)))
       by (refused k) = refl
 
--- a test of a bit
-pub bit_if : (b c : Bool) → cond (eqb (cond b 1 0) 1) c false ≡ cond b c false
-bit_if true c = refl
-bit_if false c = refl
+-- an item that was passed, and one that was not
+module _ (most : ℕ) (w : EntriesRaw) (s rows specs : List ℕ) (k : KeptRaw (length s) w) {o : Option Found} {p : ℕ} (e : gives o p ≡ abbreviation_at most s rows specs w.position) where
+  pub told_passed : {v : EntriesRaw} → got v ≡ passed_code most s specs w o p → ◌≡◌ {A = Moved (Option Passed)} (record { answer = got (told_if o); raw = v }) (told (raw_entry most w s rows specs))
+  told_passed q = rw (← q) at (told_code most w s rows specs (raw_keeps (length s) w k) o p e)
+
+  pub told_not_passed : {n : ℕ} → refused n ≡ passed_code most s specs w o p → ◌≡◌ {A = Moved (Option Passed)} (record { answer = refused n; raw = w }) (told (raw_entry most w s rows specs))
+  told_not_passed q = rw (← q) at (told_code most w s rows specs (raw_keeps (length s) w k) o p e)
 
 -- ---- the loop that passes items up to a depth
 
@@ -290,16 +271,19 @@ module _ (most : ℕ) (s rows specs : List ℕ) where
   PastNullsEnd p q = Arrived most s rows specs plainly is_entry p q
 
   module _ {p q : Passing} (t : PastNulls p q) where
-    pub nulls_found : {c r : ℕ} → (c ≡ 0 → ⊥) → uleb_at s q.raw.position 64 ≡ gives c r → PastNullsEnd p q
-    nulls_found h e = sought_found most s rows specs plainly (λ c. le_refl c.input.position) is_entry t (entry_next most s rows specs q.raw h e)
+    pub nulls_found : {c r : ℕ} → (c ≡ 0 → ⊥) → gives c r ≡ uleb_at s q.raw.position 64 → PastNullsEnd p q
+    nulls_found h e = sought_found most s rows specs plainly (λ c. le_refl c.input.position) is_entry t (entry_next most s rows specs q.raw h (sym e))
 
-    pub nulls_refused : {n : ℕ} → uleb_at s q.raw.position 64 ≡ refused n → PastNullsEnd p q
+    pub nulls_refused : {n : ℕ} → refused n ≡ uleb_at s q.raw.position 64 → PastNullsEnd p q
     unfolding abbreviation_at entry_at
-    nulls_refused e = sought_found most s rows specs plainly (λ c. le_refl c.input.position) is_entry t (rw e tt)
+    nulls_refused e = sought_found most s rows specs plainly (λ c. le_refl c.input.position) is_entry t (rw (← e) tt)
 
-    pub nulls_further : (x : Passing) {r : ℕ} → q.raw.position < length s → uleb_at s q.raw.position 64 ≡ gives 0 r
+    pub nulls_further : (x : Passing) {c r : ℕ} → c ≡ 0 → gives c r ≡ uleb_at s q.raw.position 64
         → x.raw ≡ moved_to q.raw r (q.raw.depth -ℤ pos 1) → x.offset ≡ q.raw.start + q.raw.position → x.depth ≡ q.raw.depth → PastNulls p x
-    nulls_further x {r} h e a b c =
+    nulls_further x {c = m} {r} y u a b c =
+        let e : uleb_at s q.raw.position 64 ≡ gives 0 r = sym u ∙ ap (λ (n : ℕ). gives n r) y in
+        let z = rw e at (uleb_ends s q.raw.position 64) in
+        let h : q.raw.position < length s = omega (arith, z.above, z.within) in
         let i : Read Entry = record { value = null_entry most (q.raw.start + q.raw.position) q.raw.depth; next = r } in
         let f = code_null most s rows specs q.raw e in
         let n : item_next most s rows specs q.raw ≡ got i = null_next most s rows specs q.raw f in

@@ -1,13 +1,13 @@
 -- Laws of the raw reader.
-use mathlib.Core.Bool.{Bool, true, false, cond, ◌&&◌}
-use mathlib.Core.Path.{◌≡◌, refl, sym, ap, ◌∙◌}
+use mathlib.Core.Bool.{Bool, true, cond, ◌&&◌}
+use mathlib.Core.Path.{◌≡◌, sym, ap, ◌∙◌}
 use mathlib.Core.List.{List}
 use mathlib.Core.Option.{Option, none, some}
-use Prim.Native.Nat.{ℕ, ◌+◌, ◌-◌, ◌^◌, ◌≤◌, ◌<◌}
+use Prim.Native.Nat.{ℕ, ◌+◌, ◌^◌, ◌≤◌, ◌<◌}
 use native.Mathlib.Omega.{arith}
 use borrow.Author.Tests.{leb-true, ltb-true, le-leb, lt-ltb, ne_eqb}
 use lib.Dec.{eqb, leb, ltb}
-use lib.IntN.{ℤ, pos, nat_abs, ◌+ℤ◌}
+use lib.IntN.{ℤ, nat_abs}
 use lib.ListN.{length}
 use Rattle.reader.specs.Answer.{Answer, got, refused, and_then, Read, gives, Holds}
 use Rattle.reader.specs.Leb128.{uleb_at}
@@ -27,7 +27,7 @@ use Rattle.attribute.specs.Value.{Attribute}
 use Rattle.abbrev.proofs.Lookups.{Keeps, lookup_keeps}
 use Rattle.entries.specs.Entry.{Entry, entry_of}
 use Rattle.entries.specs.Steps.{KeptRaw, Onward, took_entry}
-use Rattle.entries.specs.Raw.{keeps_raw, Moved, Taken, taken, refused_entry, raw_entry, Listed}
+use Rattle.entries.specs.Raw.{keeps_raw, Taken, taken, refused_entry, raw_entry}
 use Rattle.entries.specs.Read.{known, code_by, abbreviation_at, raised, entry_after, entry_at}
 use Rattle.entries.specs.declared.raw.EntriesRaw.{EntriesRaw}
 
@@ -58,25 +58,6 @@ pub abbreviation_in : (most : ℕ) (s rows specs : List ℕ) (at : ℕ) → Hold
 unfolding abbreviation_at
 abbreviation_in most s rows specs at = code_in (lookup most rows specs) s at
 
--- so a depth can rise and fall once more
-pub near_enough : (count : ℕ) (w : EntriesRaw) {p : ℕ} → KeptRaw count w → w.position < p → p ≤ count → nat_abs w.depth < 2 ^ 63 - 1
-near_enough count w k h l = omega (arith, k.near, k.short)
-
-pub uleb_near : (s : List ℕ) (w : EntriesRaw) {c p : ℕ} → KeptRaw (length s) w → uleb_at s w.position 64 ≡ gives c p → nat_abs w.depth < 2 ^ 63 - 1
-uleb_near s w k e = let z = rw e at (uleb_ends s w.position 64) in near_enough (length s) w k z.above z.within
-
--- the depth after an abbreviation, by its bit
-pub raised_is : (b : Bool) (d : ℤ) → raised (cond b 1 0) d ≡ cond b (d +ℤ pos 1) d
-raised_is true d = refl
-raised_is false d = refl
-
--- the same answer beside the same state
-pub same_moved : {A : Type 0} (x : Answer A) {v u : EntriesRaw} → v ≡ u → ◌≡◌ {A = Moved A} (record { answer = x; raw = v }) (record { answer = x; raw = u })
-same_moved {A} x e = ap (λ (v : EntriesRaw). as_moved v) e
-  where
-    as_moved : EntriesRaw → Moved A
-    as_moved v = record { answer = x; raw = v }
-
 -- the found row of an entry keeps 01's sizes
 code_keeps : (most : ℕ) (find : ℕ → Answer (Option Found)) (s specs : List ℕ) (at : ℕ) → ((c : ℕ) → Holds (Keeps most specs) (find c)) → Holds (λ v. Keeps most specs v.value) (code_by find s at)
 code_keeps most find s specs at k = go (uleb_at s at 64)
@@ -100,8 +81,12 @@ found_keeps most s rows specs at e = rw e at (code_keeps most (lookup most rows 
 pub goes_on : (count : ℕ) (w : EntriesRaw) {p : ℕ} → KeptRaw count w → w.position < p → p ≤ count → Onward w p
 goes_on count w k h l = record { above = h; short = omega (arith, k.short); near = k.near }
 
-pub onward_near : (w : EntriesRaw) {p : ℕ} → Onward w p → nat_abs w.depth < 2 ^ 63 - 1
-onward_near w o = omega (arith, o.above, o.short, o.near)
+-- from a state that keeps the sizes to behind its code
+pub code_onward : (most : ℕ) (s rows specs : List ℕ) (w : EntriesRaw) {o : Option Found} {p : ℕ} → KeptRaw (length s) w → gives o p ≡ abbreviation_at most s rows specs w.position → Onward w p
+code_onward most s rows specs w k e = let z = rw (← e) at (abbreviation_in most s rows specs w.position) in goes_on (length s) w k z.0 z.1
+
+pub uleb_onward : (s : List ℕ) (w : EntriesRaw) {c p : ℕ} → KeptRaw (length s) w → gives c p ≡ uleb_at s w.position 64 → Onward w p
+uleb_onward s w k e = let z = rw (← e) at (uleb_ends s w.position 64) in goes_on (length s) w k z.above z.within
 
 -- the same entry beside the same state
 pub same_taken : (x : Answer Bool) {e g : Entry} {v u : EntriesRaw} → e ≡ g → v ≡ u → ◌≡◌ {A = Taken} (record { answer = x; entry = e; raw = v }) (record { answer = x; entry = g; raw = u })
@@ -109,10 +94,6 @@ same_taken x {e} {g} {v} {u} p q = ap (λ (a : Entry). as_taken a v) p ∙ ap (�
   where
     as_taken : Entry → EntriesRaw → Taken
     as_taken a b = record { answer = x; entry = a; raw = b }
-
-pub bit_back : (b : Bool) → eqb (cond b 1 0) 1 ≡ b
-bit_back true = refl
-bit_back false = refl
 
 -- an entry whose values were stored, and one whose values refuse
 module _ (most : ℕ) (w : EntriesRaw) (f : Found) (r : Answer (Read (List Attribute))) where
@@ -131,13 +112,6 @@ module _ (most : ℕ) (w : EntriesRaw) (f : Found) (r : Answer (Read (List Attri
       go : (x : Answer (Read (List Attribute))) → (stored most x).end ≡ refused k → refused_entry most w k ≡ taken most w d (and_then x (λ v. gives (entry_of most (w.start + w.position) w.depth f v.value) v.next))
       go (got v) q = let z : ◌≡◌ {A = ℕ} 0 1 = cc in absurd (omega arith)
       go (refused n) q = let z : n ≡ k = cc in rw z
-
--- the same values beside the same state
-pub same_listed : (x : Answer (Unit {0})) {l m : List Attribute} {v u : EntriesRaw} → l ≡ m → v ≡ u → ◌≡◌ {A = Listed} (record { answer = x; attrs = l; raw = v }) (record { answer = x; attrs = m; raw = u })
-same_listed x {l} {m} {v} {u} p q = ap (λ (a : List Attribute). as_listed a v) p ∙ ap (λ (b : EntriesRaw). as_listed m b) q
-  where
-    as_listed : List Attribute → EntriesRaw → Listed
-    as_listed a b = record { answer = x; attrs = a; raw = b }
 
 -- values that were stored end further on
 pub stored_onward : (most : ℕ) (s : List ℕ) (at : ℕ) (w : EntriesRaw) (r : Answer (Read (List Attribute))) {p : ℕ} → KeptRaw (length s) w → w.position < at → Holds (λ v. Onwards s at v.next) r → (stored most r).end ≡ got p → Onward w p

@@ -5,11 +5,13 @@ use mathlib.Core.List.{List, [], ◌∷◌, ◌++◌, append_assoc, append-nil}
 use mathlib.Core.Option.{Option, none, some}
 use Prim.Native.Nat.{ℕ, zero, suc, ◌+◌, ◌*◌, ◌/◌, ◌≤◌, ◌<◌}
 use native.Mathlib.Omega.{arith}
-use borrow.Author.Tests.{eqb-true, le-leb, lt-leb, lt-ltb, le-ltb}
+use borrow.Author.Tests.{eqb-true, leb-true, leb-false, le-leb, lt-leb, lt-ltb, le-ltb}
 use lib.Dec.{ltb}
 use lib.IntN.{ℤ}
 use lib.ListN.{length, take, drop, length-append}
 use lib.Seq.{take_all, take_at, drop-append-add, drop-drop}
+use Rattle.std.specs.Prelude.{Ok, Err, Some, None, unwrap_or}
+use Rattle.std.specs.Prelude as code
 use Rattle.reader.specs.Answer.{Answer, got, refused, if_some}
 use Rattle.reader.specs.Errors.{number_of}
 use Rattle.reader.specs.Twos.{word}
@@ -18,13 +20,13 @@ use Rattle.entries.specs.Cursor.{item_next}
 use Rattle.entries.specs.Entry.{is_null}
 use Rattle.entries.specs.Flat.{Item, place_at, depth_at, Stop, Reading, nothing, before, never, reading_from, after_items}
 use Rattle.entries.specs.Pass.{Passed, told_of, told, item_words, items_words, first_of, with_words}
-use Rattle.entries.specs.Raw.{moved_to, source_of, Moved, raw_entry}
+use Rattle.entries.specs.Raw.{moved_to, empty_raw, source_of, Moved, raw_entry}
 use Rattle.entries.specs.Read.{after_entry}
 use Rattle.entries.specs.Steps.{KeptRaw}
-use Rattle.entries.specs.Views.{view_outcome, PassedAs}
+use Rattle.reader.specs.Views.{view}
+use Rattle.entries.specs.Views.{PassedAs, view_if, passed_of}
 use Rattle.entries.specs.declared.flat.PassedEntries.{PassedEntries}
 use Rattle.entries.specs.declared.raw.EntriesRaw.{EntriesRaw}
-use Rattle.entries.specs.declared.raw.Outcome.TheVariants as outcome
 use Rattle.entries.proofs.FlatLaws.{Stands, reading_step}
 use Rattle.entries.proofs.SeekLaws.{stands, item_kept, was_read, was_refused}
 
@@ -85,6 +87,15 @@ tag_in (some p) = p.tag
 abbrev pub count_in : Option Passed → ℕ
 count_in none = 0
 count_in (some p) = p.count
+
+-- the two numbers of what is told, 0 for a null
+pub tag_told : (o : code.Option (ℕ × ℕ)) → (unwrap_or o (0, 0)).0 ≡ tag_in (view_if passed_of o)
+tag_told None = refl
+tag_told (Some x) = refl
+
+pub count_told : (o : code.Option (ℕ × ℕ)) → (unwrap_or o (0, 0)).1 ≡ count_in (view_if passed_of o)
+count_told None = refl
+count_told (Some x) = refl
 
 module _ (most : ℕ) (s rows specs : List ℕ) where
   abbrev pub reading : EntriesRaw → Reading
@@ -152,10 +163,6 @@ module _ (most : ℕ) (s rows specs : List ℕ) where
         go : (a : Answer Bool) → (raw_entry most w s rows specs).answer ≡ a → item_next most s rows specs w ≡ refused n
         go a q = by a q (sym (ap (λ (b : Answer Bool). told_of b (raw_entry most w s rows specs).entry) q) ∙ t)
 
-    -- reading goes on further behind
-    pub told_further : {o : Option Passed} → x.answer ≡ got o → w.position < x.raw.position
-    told_further h = let z = item_told h in omega (arith, ap (λ (y : EntriesRaw). y.position) z.raw_is, z.at.above)
-
   -- its words
   told_words : (w : EntriesRaw) (x : Moved (Option Passed)) (o : Option Passed) (z : ItemTold w x o) → item_words z.item ≡ ((w.start + w.position) ∷ word 64 w.depth ∷ tag_in o ∷ count_in o ∷ [])
   told_words w x o z =
@@ -218,10 +225,11 @@ module _ (most : ℕ) (s rows specs : List ℕ) where
         ∙ ap (λ (k : ℕ). items_words (done ++ (i ∷ [])) ++ drop k lent) (sym b)
 
     -- one more
-    pub run_further : {x : Moved (Option Passed)} {o : Option Passed} {out' : List ℕ} → w.position < length s → count < length lent / 4 → x ≡ told (raw_entry most w s rows specs) → x.answer ≡ got o → length out' ≡ length out
+    pub run_further : {x : Moved (Option Passed)} {o : Option Passed} {out' : List ℕ} → empty_raw (length s) w ≡ false → count < length lent / 4 → x ≡ told (raw_entry most w s rows specs) → x.answer ≡ got o → length out' ≡ length out
         → out' ≡ take (count * 4) out ++ ((w.start + w.position) ∷ word 64 w.depth ∷ tag_in o ∷ count_in o ∷ []) ++ drop (count * 4 + 4) out → Run w₀ lent x.raw out' (count + 1)
-    unfolding done
-    run_further {x} {o} {out'} h r e a l p =
+    unfolding done empty_raw
+    run_further {x} {o} {out'} b r e a l p =
+        let h : w.position < length s = leb-false _ _ b in
         let z = item_told w t.kept e a in
         let i = z.item in
         let v = moved_to w i.next (after_entry i.value) in
@@ -246,7 +254,7 @@ module _ (most : ℕ) (s rows specs : List ℕ) where
 
     -- what is passed where a reading ends behind some items
     passed_as : (r : Reading) (p : PassedEntries) → reading w ≡ r → r.items ≡ [] → p.count ≡ count → p.raw ≡ w
-        → view_outcome p.answer ≡ cond (ltb (length done) (length lent / 4)) (if_some r.stop (got tt) (λ x. refused x.number)) (got tt)
+        → view p.answer ≡ cond (ltb (length done) (length lent / 4)) (if_some r.stop (got tt) (λ x. refused x.number)) (got tt)
         → PassedAs (first_of (length lent / 4) w₀ (reading w₀)) lent out p
     unfolding done
     passed_as r p e q c d v =
@@ -267,30 +275,31 @@ module _ (most : ℕ) (s rows specs : List ℕ) where
     at_most e x = ap (λ (c : Bool). cond c x (got tt)) e
 
     -- no byte is left
-    pub run_ended : length s ≤ w.position → PassedAs (first_of (length lent / 4) w₀ (reading w₀)) lent out (record { answer = outcome.Done; count = count; raw = w })
+    pub run_ended : empty_raw (length s) w ≡ true → PassedAs (first_of (length lent / 4) w₀ (reading w₀)) lent out (record { answer = Ok tt; count = count; raw = w })
+    unfolding empty_raw
     run_ended h =
-        passed_as nothing (record { answer = outcome.Done; count = count; raw = w }) (reading_none w h) refl refl refl (by (ltb (length done) (length lent / 4)))
+        passed_as nothing (record { answer = Ok tt; count = count; raw = w }) (reading_none w (leb-true _ _ h)) refl refl refl (by (ltb (length done) (length lent / 4)))
       where
         by : (b : Bool) → ◌≡◌ {A = Answer (Unit {0})} (got tt) (cond b (got tt) (got tt))
         by true = refl
         by false = refl
 
     -- an item is refused
-    pub run_refused : {x : Moved (Option Passed)} {e : Error} → w.position < length s → count < length lent / 4 → x ≡ told (raw_entry most w s rows specs) → x.answer ≡ refused (number_of e)
-        → PassedAs (first_of (length lent / 4) w₀ (reading w₀)) lent out (record { answer = outcome.Refused e; count = count; raw = w })
-    unfolding done
-    run_refused {x} {e} h r q a =
-        passed_as (record { items = []; stop = some (record { number = number_of e; at = w.position; depth = w.depth }) }) (record { answer = outcome.Refused e; count = count; raw = w }) (reading_refused w h (item_refused w t.kept q a)) refl refl refl
+    pub run_refused : {e : Error} → empty_raw (length s) w ≡ false → count < length lent / 4 → record { answer = refused (number_of e); raw = w } ≡ told (raw_entry most w s rows specs)
+        → PassedAs (first_of (length lent / 4) w₀ (reading w₀)) lent out (record { answer = Err e; count = count; raw = w })
+    unfolding done empty_raw
+    run_refused {e} h r q =
+        passed_as (record { items = []; stop = some (record { number = number_of e; at = w.position; depth = w.depth }) }) (record { answer = Err e; count = count; raw = w }) (reading_refused w (leb-false _ _ h) (item_refused w t.kept q refl)) refl refl refl
         (sym (at_most (lt-ltb (length done) (length lent / 4) (omega (arith, t.count_is))) _))
 
     -- no words are left: what follows is not looked at
-    pub run_full : length lent / 4 ≤ count → PassedAs (first_of (length lent / 4) w₀ (reading w₀)) lent out (record { answer = outcome.Done; count = count; raw = w })
+    pub run_full : length lent / 4 ≤ count → PassedAs (first_of (length lent / 4) w₀ (reading w₀)) lent out (record { answer = Ok tt; count = count; raw = w })
     unfolding done
     run_full h =
         let m : length lent / 4 ≡ length done = omega (arith, t.count_is, t.inside) in
         let l = length-append done (reading w).items in
         let g : take (length lent / 4) (done ++ (reading w).items) ≡ done = take_at done (reading w).items (length lent / 4) (sym m) in
-        subst (λ (y : Reading). PassedAs (first_of (length lent / 4) w₀ y) lent out (record { answer = outcome.Done; count = count; raw = w })) (sym t.is)
+        subst (λ (y : Reading). PassedAs (first_of (length lent / 4) w₀ y) lent out (record { answer = Ok tt; count = count; raw = w })) (sym t.is)
         (record {
           answer_is = sym (ap (λ (c : Bool). cond c (if_some (reading w).stop (got tt) (λ x. refused x.number)) (got tt)) (le-ltb (length (done ++ (reading w).items)) (length lent / 4) (omega (arith, l))));
           count_is = t.count_is ∙ sym (ap length g);

@@ -279,9 +279,6 @@ module _ (most : ℕ) (s rows specs : List ℕ) where
       pub kept : KeptRaw (length s) q.raw
       pub same : go_on wanted sought (on p.raw p.offset p.depth) ≡ go_on wanted sought (on q.raw q.offset q.depth)
 
-    pub sought_begun : (p : Passing) → KeptRaw (length s) p.raw → Sought p p
-    sought_begun p k = record { kept = k; same = refl }
-
     module _ {p q : Passing} (t : Sought p q) where
       pub sought_ended : length s ≤ q.raw.position → Arrived most s rows specs from wanted p q
       sought_ended h =

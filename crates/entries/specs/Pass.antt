@@ -1,7 +1,7 @@
 -- Items that are only passed: what is told of them, and their words.
 use Rattle.std.specs.Prelude.{Bool, true, false, cond, List, [], ◌∷◌, ◌++◌, ℕ, ◌*◌, ltb, length, take, drop}
 use Rattle.std.proofs.Math.Option.{Option, none, some}
-use Rattle.reader.specs.Answer.{Answer, got, refused, and_then, if_some, Read, gives}
+use Rattle.reader.specs.Answer.{Answer, got, refused, if_some}
 use Rattle.reader.specs.Twos.{word}
 use Rattle.abbrev.specs.Lookup.{Found}
 use Rattle.entries.specs.Entry.{Entry}
@@ -14,9 +14,10 @@ pub record Passed : Type 0 where
   pub tag : ℕ
   pub count : ℕ
 
--- an entry of a found row whose values end at a place
-abbrev pub passed_to : Found → Answer ℕ → Answer (Read (Option Passed))
-passed_to f r = and_then r (λ p. gives (some (record { tag = f.tag; count = f.count })) p)
+-- of what a code stands for: what is told of an entry, or none for a null
+abbrev pub told_if : Option Found → Option Passed
+told_if none = none
+told_if (some f) = some (record { tag = f.tag; count = f.count })
 
 -- of an item that read_entry reads: what is told of an entry, or none for a null
 abbrev pub told_of : Answer Bool → Entry → Answer (Option Passed)

@@ -1,17 +1,15 @@
 -- What the private functions ask for and promise.
-use Rattle.std.specs.Prelude.{◌≡◌, Bool, true, false, cond, ◌||◌, List, [], ◌∷◌, ℕ, ◌+◌, ◌^◌, ◌≤◌, ◌<◌, eqb, ℤ, nat_abs, length}
+use Rattle.std.specs.Prelude.{◌≡◌, Bool, true, false, cond, ◌||◌, List, [], ◌∷◌, ℕ, ◌+◌, ◌/◌, ◌^◌, ◌≤◌, ◌<◌, eqb, ℤ, pos, ◌-ℤ◌, nat_abs, length}
 use Rattle.std.proofs.Math.Option.{Option, none, some}
-use Rattle.reader.specs.Answer.{Answer, got, refused, Read, end_of}
-use Rattle.abbrev.specs.Lookup.{Found}
+use Rattle.reader.specs.Answer.{Answer, got, refused, and_then, if_some, Read, end_of}
+use Rattle.abbrev.specs.Lookup.{Found, declaration_of}
 use Rattle.abbrev.specs.Table.{Specification}
 use Rattle.attribute.specs.Attributes.{read_attributes}
 use Rattle.attribute.specs.Value.{Attribute}
 use Rattle.entries.specs.Cursor.{Cursor, Called, go_on, settled, jumped, depth_past, item_next, advanced, seek}
-use Rattle.entries.specs.Entry.{Entry}
+use Rattle.entries.specs.Entry.{Entry, sibling}
 use Rattle.entries.specs.Raw.{moved_to, entry_here, Taken}
 use Rattle.entries.specs.Read.{raised}
-use Rattle.entries.specs.declared.pass.Item.{Item}
-use Rattle.entries.specs.declared.pass.Item.TheVariants as item
 use Rattle.entries.specs.declared.pass.Passing.{Passing}
 use Rattle.entries.specs.declared.raw.EntriesRaw.{EntriesRaw}
 
@@ -41,18 +39,34 @@ abbrev pub names_any : ℕ → List Specification → Bool
 names_any n [] = false
 names_any n (x ∷ xs) = eqb x.name n || names_any n xs
 
-abbrev pub view_item : Item → Option EntriesRaw
-view_item (item.On w) = some w
-view_item item.Refused = none
+-- the specifications of what a code stands for are there
+abbrev pub HasSpecs : List ℕ → Option Found → Type 0
+HasSpecs specs none = Unit {0}
+HasSpecs specs (some f) = f.first + f.count ≤ length specs / 3
 
--- past the values of a found row, from a place behind its code
-abbrev pub past_values : EntriesRaw → Found → Answer ℕ → Option EntriesRaw
-past_values w f (got p) = some (moved_to w p (raised f.children w.depth))
-past_values w f (refused n) = none
+-- whether it can offer a jump: an entry with children and with a specification for it
+abbrev pub may_jump : List ℕ → Option Found → Bool
+may_jump specs o =
+    if_some o false (λ f. cond (eqb f.children 1) (names_any sibling (declaration_of specs f).specifications) false)
 
-abbrev pub past_plain : ℕ → List ℕ → List ℕ → EntriesRaw → Found → ℕ → Option EntriesRaw
-past_plain most s specs w f next =
-    past_values w f (end_of (read_attributes most s w.start w.encoding w.endian specs f next))
+-- what there is, none after a refusal
+abbrev pub if_got : {A : Type 0} → Answer A → Option A
+if_got (got a) = some a
+if_got (refused n) = none
+
+-- the depth after a code, by what it stands for
+abbrev pub depth_by : Option Found → ℤ → ℤ
+depth_by o d = if_some o (d -ℤ pos 1) (λ f. raised f.children d)
+
+-- where what a code stands for ends, from the place behind the code
+abbrev pub code_end : ℕ → List ℕ → List ℕ → EntriesRaw → Option Found → ℕ → Answer ℕ
+code_end most s specs w o p =
+    if_some o (got p) (λ f. end_of (read_attributes most s w.start w.encoding w.endian specs f p))
+
+-- the state there
+abbrev pub passed_code : ℕ → List ℕ → List ℕ → EntriesRaw → Option Found → ℕ → Answer EntriesRaw
+passed_code most s specs w o p =
+    and_then (code_end most s specs w o p) (λ q. got (moved_to w q (depth_by o w.depth)))
 
 -- where reading goes on after an item, its jump taken
 abbrev pub past_item : ℕ → EntriesRaw → ℤ → Answer (Read Entry) → Option EntriesRaw

@@ -1,12 +1,18 @@
 -- The code's answers and structs in the definitions' terms.
-use Rattle.std.specs.Prelude.{Bool, true, false, List, map, ◌≡◌, ℕ, length}
+use Rattle.std.specs.Prelude.{Bool, true, false, List, map, ◌≡◌, ℕ, length, Result, Ok, Err, Some, None}
+use Rattle.std.specs.Prelude as code
 use Rattle.std.proofs.Math.Option.{Option, none, some}
-use Rattle.reader.specs.Answer.{Answer, got, refused, Read, gives}
+use Rattle.reader.specs.Answer.{Answer, got, refused, Read}
 use Rattle.reader.specs.Errors.{number_of}
+use Rattle.reader.specs.Views.{view, view_by, view_read_by}
+use Rattle.reader.specs.declared.error.Error.{Error}
 use Rattle.abbrev.specs.Lookup.{Found}
-use Rattle.abbrev.specs.Views.{found_of}
+use Rattle.abbrev.specs.Views.{found_of, view_if_any, view_lookup}
+use Rattle.abbrev.specs.declared.lookup.Abbreviation.{Abbreviation}
 use Rattle.attribute.specs.Value.{Attribute}
 use Rattle.attribute.specs.Views.{view_attribute, view_value}
+use Rattle.attribute.specs.declared.value.Attribute as declared_attribute
+use Rattle.attribute.specs.declared.value.AttributeValue.{AttributeValue}
 use Rattle.attribute.specs.declared.value.Value.{Value}
 use Rattle.entries.specs.Entry.{Entry}
 use Rattle.entries.specs.Cursor.{Cursor, OpenedCursor, Current, Called}
@@ -16,41 +22,20 @@ use Rattle.entries.specs.Raw.{Moved, Taken, Listed}
 use Rattle.entries.specs.declared.cursor.Current as declared_current
 use Rattle.entries.specs.declared.cursor.CursorNext.{CursorNext}
 use Rattle.entries.specs.declared.cursor.EntriesCursor.{EntriesCursor}
-use Rattle.entries.specs.declared.cursor.Next.{Next}
-use Rattle.entries.specs.declared.cursor.Next.TheVariants as next
 use Rattle.entries.specs.declared.cursor.OpenedCursor as declared_opened
 use Rattle.entries.specs.declared.entry.Entry as declared_entry
-use Rattle.entries.specs.declared.entry.Named.{Named}
-use Rattle.entries.specs.declared.entry.Named.TheVariants as named_attribute
-use Rattle.entries.specs.declared.entry.NamedValue.{NamedValue}
-use Rattle.entries.specs.declared.entry.NamedValue.TheVariants as named_value
-use Rattle.entries.specs.declared.raw.Code.{Code}
-use Rattle.entries.specs.declared.raw.Code.TheVariants as code
-use Rattle.entries.specs.declared.raw.Coded.{Coded}
-use Rattle.entries.specs.declared.raw.Coded.TheVariants as coded
-use Rattle.entries.specs.declared.raw.EntriesRaw.{EntriesRaw}
 use Rattle.entries.specs.declared.flat.PassedEntries.{PassedEntries}
 use Rattle.entries.specs.declared.open.EntryAt as declared_entry_at
 use Rattle.entries.specs.declared.open.OpenedUnit.{OpenedUnit}
-use Rattle.entries.specs.declared.open.UnitAt as declared_unit_at
-use Rattle.entries.specs.declared.open.UnitAt.TheVariants as unit_at
-use Rattle.unit.specs.declared.header.UnitHeader.{UnitHeader}
-use Rattle.entries.specs.declared.raw.Opened.{Opened}
-use Rattle.entries.specs.declared.raw.Opened.TheVariants as opening
-use Rattle.entries.specs.declared.raw.Outcome.{Outcome}
-use Rattle.entries.specs.declared.raw.Outcome.TheVariants as outcome
-use Rattle.entries.specs.declared.raw.PassedEntry.{PassedEntry}
-use Rattle.entries.specs.declared.raw.PassedEntry.TheVariants as passed
-use Rattle.entries.specs.declared.raw.RawAbbreviation.{RawAbbreviation}
-use Rattle.entries.specs.declared.raw.RawAttribute.{RawAttribute}
+use Rattle.entries.specs.declared.raw.EntriesRaw.{EntriesRaw}
+use Rattle.entries.specs.declared.raw.Moved as declared_moved
 use Rattle.entries.specs.declared.raw.RawAttributes.{RawAttributes}
 use Rattle.entries.specs.declared.raw.RawEntry.{RawEntry}
-use Rattle.entries.specs.declared.raw.RawPassed.{RawPassed}
-use Rattle.entries.specs.declared.raw.RawSkipped.{RawSkipped}
-use Rattle.entries.specs.declared.raw.ReadAttribute.{ReadAttribute}
-use Rattle.entries.specs.declared.raw.ReadAttribute.TheVariants as declared_read
-use Rattle.entries.specs.declared.raw.Said.{Said}
-use Rattle.entries.specs.declared.raw.Said.TheVariants as said
+
+-- what there may be, by what it is seen as
+abbrev pub view_if : {A B : Type 0} → (A → B) → code.Option A → Option B
+view_if f (Some a) = some (f a)
+view_if f None = none
 
 abbrev pub view_entry : declared_entry.Entry → Entry
 view_entry e =
@@ -63,13 +48,11 @@ view_entry e =
       attrs = map view_attribute e.attrs;
     }
 
-abbrev pub view_named : Named → Option Attribute
-view_named (named_attribute.Found a) = some (view_attribute a)
-view_named named_attribute.Absent = none
+abbrev pub view_named : code.Option declared_attribute.Attribute → Option Attribute
+view_named o = view_if view_attribute o
 
-abbrev pub view_named_value : NamedValue → Option Value
-view_named_value (named_value.Found v) = some (view_value v)
-view_named_value named_value.Absent = none
+abbrev pub view_named_value : code.Option AttributeValue → Option Value
+view_named_value o = view_if view_value o
 
 abbrev pub is_some : {A : Type 0} → Option A → Bool
 is_some none = false
@@ -80,88 +63,68 @@ abbrev pub value_in : Option Attribute → Option Value
 value_in none = none
 value_in (some a) = some a.value
 
-abbrev pub view_opened : Opened → Answer EntriesRaw
-view_opened (opening.Got w) = got w
-view_opened (opening.Refused e) = refused (number_of e)
+-- what a code stands for, none for a null
+abbrev pub view_found : code.Option Abbreviation → Option Found
+view_found o = view_if found_of o
 
-abbrev pub view_code : Code → Answer (Read (Option Found))
-view_code (code.Found a p) = gives (some (found_of a)) p
-view_code (code.Null p) = gives none p
-view_code (code.Refused e) = refused (number_of e)
+abbrev pub view_code : Result (code.Option Abbreviation × ℕ) Error → Answer (Read (Option Found))
+view_code r = view_read_by view_found r
 
-abbrev pub view_coded : Coded → Answer (Option Found)
-view_coded (coded.Found a) = got (some (found_of a))
-view_coded coded.Null = got none
-view_coded (coded.Refused e) = refused (number_of e)
+-- what a call says, and the state behind it
+abbrev pub view_moved : {A B : Type 0} → (Result A Error → Answer B) → declared_moved.Moved A → Moved B
+view_moved f r = record { answer = f r.answer; raw = r.raw }
 
-abbrev pub view_raw_abbreviation : RawAbbreviation → Moved (Option Found)
-view_raw_abbreviation r = record { answer = view_coded r.answer; raw = r.raw }
-
--- whether it is an entry
-abbrev pub view_said : Said → Answer Bool
-view_said said.Entry = got true
-view_said said.Null = got false
-view_said (said.Refused e) = refused (number_of e)
+abbrev pub view_raw_abbreviation : declared_moved.Moved (code.Option Abbreviation) → Moved (Option Found)
+view_raw_abbreviation r = view_moved view_lookup r
 
 abbrev pub view_raw_entry : RawEntry → Taken
-view_raw_entry r = record { answer = view_said r.answer; entry = view_entry r.entry; raw = r.raw }
+view_raw_entry r = record { answer = view r.answer; entry = view_entry r.entry; raw = r.raw }
 
-abbrev pub view_passed_entry : PassedEntry → Answer (Option Passed)
-view_passed_entry (passed.Entry tag count) = got (some (record { tag = tag; count = count }))
-view_passed_entry passed.Null = got none
-view_passed_entry (passed.Refused e) = refused (number_of e)
+-- a tag and how many values
+abbrev pub passed_of : ℕ × ℕ → Passed
+passed_of x = record { tag = x.0; count = x.1 }
 
-abbrev pub view_raw_passed : RawPassed → Moved (Option Passed)
-view_raw_passed r = record { answer = view_passed_entry r.answer; raw = r.raw }
+abbrev pub view_passed_entry : Result (code.Option (ℕ × ℕ)) Error → Answer (Option Passed)
+view_passed_entry r = view_if_any passed_of r
 
-abbrev pub view_outcome : Outcome → Answer (Unit {0})
-view_outcome outcome.Done = got tt
-view_outcome (outcome.Refused e) = refused (number_of e)
+abbrev pub view_raw_passed : declared_moved.Moved (code.Option (ℕ × ℕ)) → Moved (Option Passed)
+view_raw_passed r = view_moved view_passed_entry r
+
+-- the same with the state beside the value; a refusal keeps the one before
+abbrev pub view_passed : EntriesRaw → Result (code.Option (ℕ × ℕ) × EntriesRaw) Error → Moved (Option Passed)
+view_passed w (Ok x) = record { answer = got (view_if passed_of x.0); raw = x.1 }
+view_passed w (Err e) = record { answer = refused (number_of e); raw = w }
 
 -- items passed, and their words in lent words
 pub record PassedAs (x : PassedItems) (before after : List ℕ) (r : PassedEntries) : Type 0 where
-  pub answer_is : view_outcome r.answer ≡ x.answer
+  pub answer_is : view r.answer ≡ x.answer
   pub count_is : r.count ≡ length x.items
   pub raw_is : r.raw ≡ x.raw
   pub words_are : after ≡ with_words x.items before
 
-abbrev pub view_read_attribute : ReadAttribute → Answer Attribute
-view_read_attribute (declared_read.Got a) = got (view_attribute a)
-view_read_attribute (declared_read.Refused e) = refused (number_of e)
-
-abbrev pub view_raw_attribute : RawAttribute → Moved Attribute
-view_raw_attribute r = record { answer = view_read_attribute r.answer; raw = r.raw }
+abbrev pub view_raw_attribute : declared_moved.Moved declared_attribute.Attribute → Moved Attribute
+view_raw_attribute r = view_moved (view_by view_attribute) r
 
 abbrev pub view_raw_attributes : RawAttributes → Listed
-view_raw_attributes r = record { answer = view_outcome r.answer; attrs = map view_attribute r.attrs; raw = r.raw }
+view_raw_attributes r = record { answer = view r.answer; attrs = map view_attribute r.attrs; raw = r.raw }
 
-abbrev pub view_raw_skipped : RawSkipped → Moved (Unit {0})
-view_raw_skipped r = record { answer = view_outcome r.answer; raw = r.raw }
+abbrev pub view_raw_skipped : declared_moved.Moved (Unit {0}) → Moved (Unit {0})
+view_raw_skipped r = view_moved view r
 
 abbrev pub view_cursor : EntriesCursor → Cursor
 view_cursor c = record { input = c.input; entry = view_entry c.entry }
 
 abbrev pub view_opened_cursor : declared_opened.OpenedCursor → OpenedCursor
-view_opened_cursor r = record { answer = view_outcome r.answer; cursor = view_cursor r.cursor }
+view_opened_cursor r = record { answer = view r.answer; cursor = view_cursor r.cursor }
 
 abbrev pub view_current : declared_current.Current → Current
 view_current r = record { is_there = r.is_entry; entry = view_entry r.entry }
 
--- whether something was reached
-abbrev pub view_next : Next → Answer Bool
-view_next next.Held = got true
-view_next next.NoMore = got false
-view_next (next.Refused e) = refused (number_of e)
-
 abbrev pub view_cursor_next : CursorNext → Called
-view_cursor_next r = record { answer = view_next r.answer; cursor = view_cursor r.cursor }
+view_cursor_next r = record { answer = view r.answer; cursor = view_cursor r.cursor }
 
 abbrev pub view_entry_at : declared_entry_at.EntryAt → EntryAt
-view_entry_at r = record { answer = view_outcome r.answer; entry = view_entry r.entry }
-
-abbrev pub view_unit_at : declared_unit_at.UnitAt → Answer UnitHeader
-view_unit_at (unit_at.Got h) = got h
-view_unit_at (unit_at.Refused e) = refused (number_of e)
+view_entry_at r = record { answer = view r.answer; entry = view_entry r.entry }
 
 abbrev pub view_opened_unit : OpenedUnit → UnitAt
-view_opened_unit r = record { answer = view_unit_at r.answer; cursor = view_cursor r.cursor }
+view_opened_unit r = record { answer = view r.answer; cursor = view_cursor r.cursor }

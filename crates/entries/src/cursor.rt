@@ -4,21 +4,18 @@
 ghost use Rattle.std.specs.Prelude.{true, false, ◌≡◌, length};
 ghost use Rattle.reader.specs.Answer.{got, refused};
 ghost use Rattle.reader.specs.Errors.{number_of};
-ghost use Rattle.reader.specs.Views.{view_place};
+ghost use Rattle.reader.specs.Views.{view};
 ghost use Rattle.abbrev.specs.Table.{entry_limit};
 ghost use Rattle.entries.specs.Cursor.{opened_cursor, no_cursor, or_no_cursor, keeps_cursor, current_of, settled, held, advanced, next_entry, next_child, next_dfs, to_depth, next_at_depth, next_sibling};
 ghost use Rattle.entries.specs.Entry.{null_entry};
 ghost use Rattle.entries.specs.Raw.{offset_of};
 ghost use Rattle.entries.specs.Steps.{KeptRaw, asked_as};
-ghost use Rattle.entries.specs.Views.{view_cursor, view_opened_cursor, view_current, view_next, view_cursor_next};
+ghost use Rattle.entries.specs.Views.{view_cursor, view_opened_cursor, view_current, view_cursor_next};
 
 use super::entry::{Entry, null_at};
 use super::pass::{Passing, jump_from, pass_nulls, pass_to};
-use super::raw::{
-    EntriesRaw, Opened, Outcome, Said, depth_at, keeps_depth, keeps_raw, moved, start_of,
-};
+use super::raw::{EntriesRaw, depth_at, keeps_depth, start_of};
 use abbrev::table::MAX_ATTRIBUTES;
-use reader::answer::Place;
 use reader::common::{Encoding, Format};
 use reader::endianity::RunTimeEndian;
 use reader::error::Error;
@@ -32,28 +29,21 @@ pub struct EntriesCursor {
 // After a refusal the cursor is one that every call that reads refuses.
 #[derive(Clone, Copy)]
 pub struct OpenedCursor {
-    pub answer: Outcome,
+    pub answer: Result<(), Error>,
     pub cursor: EntriesCursor,
 }
 
-// The entry held, and whether it is no null.
+// What is held, and whether it is an entry: of a null too the offset and the depth are told.
 #[derive(Clone, Copy)]
 pub struct Current {
     pub is_entry: bool,
     pub entry: Entry,
 }
 
-// What a call says: what was reached is held in the state beside it.
-#[derive(Clone, Copy)]
-pub enum Next {
-    Held,
-    NoMore,
-    Refused(Error),
-}
-
+// Whether something was reached, which the state beside it holds.
 #[derive(Clone, Copy)]
 pub struct CursorNext {
-    pub answer: Next,
+    pub answer: Result<bool, Error>,
     pub cursor: EntriesCursor,
 }
 
@@ -62,25 +52,27 @@ fn refuse(cursor: EntriesCursor) -> CursorNext
     ensures { view_cursor_next result ≡ record { answer = refused 1; cursor = view_cursor cursor } }
 {
     CursorNext {
-        answer: Next::Refused(Error::SizeLimit),
+        answer: Err(Error::SizeLimit),
         cursor,
     }
 }
 
 // After a refusal: at the end, with a null where the entry was refused.
+#[tactic(auto, unfolding(crate::specs::Cursor::held))]
 fn halt(raw: EntriesRaw, bytes: &[u8], rows: &[u64], specs: &[u64], error: Error) -> CursorNext
     requires { KeptRaw (length bytes.now) raw }
     ensures { view_cursor_next result ≡ held entry_limit.most bytes.now rows.now specs.now raw (refused (number_of error)) }
 {
-    let after = depth_at(raw, bytes, rows, specs);
-    let offset = raw.start + raw.position;
-    let own = raw.depth;
-    let input = moved(raw, bytes.len(), after);
-    let entry = null_at(offset, own);
-    let cursor = EntriesCursor { input, entry };
     CursorNext {
-        answer: Next::Refused(error),
-        cursor,
+        answer: Err(error),
+        cursor: EntriesCursor {
+            input: EntriesRaw {
+                position: bytes.len(),
+                depth: depth_at(raw, bytes, rows, specs),
+                ..raw
+            },
+            entry: null_at(raw.start + raw.position, raw.depth),
+        },
     }
 }
 
@@ -88,62 +80,37 @@ fn halt(raw: EntriesRaw, bytes: &[u8], rows: &[u64], specs: &[u64], error: Error
 fn at_end(raw: EntriesRaw, offset: usize, depth: i64) -> CursorNext
     ensures { view_cursor_next result ≡ record { answer = got false; cursor = record { input = raw; entry = null_entry entry_limit.most offset depth } } }
 {
-    let entry = null_at(offset, depth);
-    let cursor = EntriesCursor { input: raw, entry };
     CursorNext {
-        answer: Next::NoMore,
-        cursor,
+        answer: Ok(false),
+        cursor: EntriesCursor {
+            input: raw,
+            entry: null_at(offset, depth),
+        },
     }
 }
 
-// What is said of a null.
-fn say_null(nulls: bool) -> Next
-    ensures { view_next result ≡ got «nulls» }
+// The next item is held. A null that is read is the answer, or "no more". A refusal returns at once: where
+// arms meet, the entry is copied once more.
+#[tactic(auto, using(crate::proofs::CursorLaws::asked_none, crate::proofs::CursorLaws::held_asked, crate::proofs::CursorLaws::refused_asked), unfolding(crate::specs::Cursor::advanced))]
+fn advance(here: Passing, nulls: bool, bytes: &[u8], rows: &[u64], specs: &[u64]) -> CursorNext
+    requires { KeptRaw (length bytes.now) here.raw }
+    ensures { view_cursor_next result ≡ asked_as «nulls» (advanced entry_limit.most bytes.now rows.now specs.now here.raw here.offset here.depth) }
 {
-    if nulls { Next::Held } else { Next::NoMore }
-}
-
-// The next item is held. A null that is read is the answer, or "no more".
-fn advance(
-    raw: EntriesRaw,
-    offset: usize,
-    depth: i64,
-    nulls: bool,
-    bytes: &[u8],
-    rows: &[u64],
-    specs: &[u64],
-) -> CursorNext
-    requires { KeptRaw (length bytes.now) raw }
-    ensures { view_cursor_next result ≡ asked_as «nulls» (advanced entry_limit.most bytes.now rows.now specs.now raw offset depth) }
-{
+    let raw = here.raw;
     if raw.is_empty(bytes) {
-        return at_end(raw, offset, depth);
+        return at_end(raw, here.offset, here.depth);
     }
     let read = raw.read_entry(bytes, rows, specs);
-    let said = read.answer;
-    match said {
-        Said::Entry => {
-            let input = read.raw;
-            let entry = read.entry;
-            let cursor = EntriesCursor { input, entry };
-            return CursorNext {
-                answer: Next::Held,
-                cursor,
-            };
-        }
-        Said::Null => {
-            let after = read.raw;
-            let entry = read.entry;
-            let cursor = EntriesCursor {
-                input: after,
-                entry,
-            };
-            let answer = say_null(nulls);
-            return CursorNext { answer, cursor };
-        }
-        Said::Refused(e) => {
-            return halt(raw, bytes, rows, specs, e);
-        }
+    let is_entry = match read.answer {
+        Ok(is_entry) => is_entry,
+        Err(e) => return halt(raw, bytes, rows, specs, e),
+    };
+    CursorNext {
+        answer: Ok(is_entry || nulls),
+        cursor: EntriesCursor {
+            input: read.raw,
+            entry: read.entry,
+        },
     }
 }
 
@@ -152,8 +119,7 @@ fn arrive(here: Passing, bytes: &[u8], rows: &[u64], specs: &[u64]) -> CursorNex
     requires { KeptRaw (length bytes.now) here.raw }
     ensures { view_cursor_next result ≡ settled (advanced entry_limit.most bytes.now rows.now specs.now here.raw here.offset here.depth) }
 {
-    let raw = here.raw;
-    advance(raw, here.offset, here.depth, false, bytes, rows, specs)
+    advance(here, false, bytes, rows, specs)
 }
 
 // On to the next item at a depth.
@@ -161,13 +127,9 @@ fn go_to(cursor: EntriesCursor, bytes: &[u8], rows: &[u64], specs: &[u64], depth
     requires { keeps_cursor entry_limit.most (length bytes.now) (view_cursor cursor) ≡ true }
     ensures { view_cursor_next result ≡ to_depth entry_limit.most bytes.now rows.now specs.now depth (view_cursor cursor) }
 {
-    let input = cursor.input;
-    let entry = cursor.entry;
-    let raw = jump_from(input, entry, bytes.len());
     let from = Passing {
-        raw,
-        offset: entry.offset,
-        depth: entry.depth,
+        raw: jump_from(cursor.input, cursor.entry, bytes.len()),
+        ..cursor.passing()
     };
     let here = pass_to(from, bytes, rows, specs, depth);
     arrive(here, bytes, rows, specs)
@@ -182,23 +144,24 @@ pub(crate) fn no_cursor(endian: RunTimeEndian) -> EntriesCursor
         format: Format::Dwarf32,
         version: 0,
     };
-    let input = start_of(0x8000_0000_0000_0000, encoding, endian);
-    let entry = null_at(0, 0);
-    EntriesCursor { input, entry }
+    EntriesCursor {
+        input: start_of(0x8000_0000_0000_0000, encoding, endian),
+        entry: null_at(0, 0),
+    }
 }
 
 pub(crate) fn refuse_opening(error: Error, endian: RunTimeEndian) -> OpenedCursor
     ensures { view_opened_cursor result ≡ or_no_cursor entry_limit.most endian (refused (number_of error)) }
 {
-    let cursor = no_cursor(endian);
     OpenedCursor {
-        answer: Outcome::Refused(error),
-        cursor,
+        answer: Err(error),
+        cursor: no_cursor(endian),
     }
 }
 
 impl EntriesCursor {
     // Over the bytes of a part that starts at `start`, before its first entry.
+    #[tactic(auto, unfolding(crate::specs::Cursor::opened_cursor))]
     pub fn new(
         bytes: &[u8],
         start: usize,
@@ -208,15 +171,14 @@ impl EntriesCursor {
         ensures { view_opened_cursor result ≡ or_no_cursor entry_limit.most endian (opened_cursor entry_limit.most (length bytes.now) start encoding endian) }
     {
         match EntriesRaw::new(bytes, start, encoding, endian) {
-            Opened::Got(input) => {
-                let entry = null_at(0, 0);
-                let cursor = EntriesCursor { input, entry };
-                OpenedCursor {
-                    answer: Outcome::Done,
-                    cursor,
-                }
-            }
-            Opened::Refused(e) => refuse_opening(e, endian),
+            Ok(input) => OpenedCursor {
+                answer: Ok(()),
+                cursor: EntriesCursor {
+                    input,
+                    entry: null_at(0, 0),
+                },
+            },
+            Err(e) => refuse_opening(e, endian),
         }
     }
 
@@ -224,31 +186,30 @@ impl EntriesCursor {
     pub fn keeps_sizes(self, count: usize) -> bool
         ensures { result ≡ keeps_cursor entry_limit.most count (view_cursor self) }
     {
-        let input = self.input;
-        let entry = self.entry;
-        if keeps_raw(count, input) {
-            if keeps_depth(entry.depth, input.position) {
-                return entry.count <= MAX_ATTRIBUTES;
-            }
-            return false;
+        self.input.keeps_sizes(count)
+            && keeps_depth(self.entry.depth, self.input.position)
+            && self.entry.count <= MAX_ATTRIBUTES
+    }
+
+    // Where reading goes on, behind what is held.
+    fn passing(&self) -> Passing
+        ensures { result ≡ record { raw = self.now.input; offset = self.now.entry.offset; depth = self.now.entry.depth } }
+    {
+        Passing {
+            raw: self.input,
+            offset: self.entry.offset,
+            depth: self.entry.depth,
         }
-        false
     }
 
     // gimli's `current`.
+    #[tactic(auto, unfolding(crate::specs::Cursor::current_of))]
     pub fn current(self) -> Current
         ensures { view_current result ≡ current_of (view_cursor self) }
     {
-        let entry = self.entry;
-        if entry.is_null() {
-            return Current {
-                is_entry: false,
-                entry,
-            };
-        }
         Current {
-            is_entry: true,
-            entry,
+            is_entry: !self.entry.is_null(),
+            entry: self.entry,
         }
     }
 
@@ -256,103 +217,87 @@ impl EntriesCursor {
     pub fn offset(self) -> usize
         ensures { result ≡ (view_cursor self).entry.offset }
     {
-        let entry = self.entry;
-        entry.offset
+        self.entry.offset
     }
 
     pub fn depth(self) -> i64
         ensures { result ≡ (view_cursor self).entry.depth }
     {
-        let entry = self.entry;
-        entry.depth
+        self.entry.depth
     }
 
     // Refused with 1 for a made-up state.
-    pub fn next_offset(self) -> Place
-        ensures { view_place result ≡ offset_of self.input }
+    pub fn next_offset(self) -> Result<usize, Error>
+        ensures { view result ≡ offset_of self.input }
     {
-        let input = self.input;
-        input.next_offset()
+        self.input.next_offset()
     }
 
     pub fn next_depth(self) -> i64
         ensures { result ≡ self.input.depth }
     {
-        let input = self.input;
-        input.depth
+        self.input.depth
     }
 
     // gimli's `next_entry`: the next entry or null.
+    #[tactic(auto, unfolding(crate::specs::Cursor::next_entry))]
     pub fn next_entry(self, bytes: &[u8], rows: &[u64], specs: &[u64]) -> CursorNext
         ensures { view_cursor_next result ≡ next_entry entry_limit.most bytes.now rows.now specs.now (view_cursor self) }
     {
-        if self.keeps_sizes(bytes.len()) {
-            let input = self.input;
-            let entry = self.entry;
-            return advance(input, entry.offset, entry.depth, true, bytes, rows, specs);
+        if !self.keeps_sizes(bytes.len()) {
+            return refuse(self);
         }
-        refuse(self)
+        advance(self.passing(), true, bytes, rows, specs)
     }
 
     // The next entry; a null is "no more".
+    #[tactic(auto, unfolding(crate::specs::Cursor::next_child))]
     pub fn next_child(self, bytes: &[u8], rows: &[u64], specs: &[u64]) -> CursorNext
         ensures { view_cursor_next result ≡ next_child entry_limit.most bytes.now rows.now specs.now (view_cursor self) }
     {
-        if self.keeps_sizes(bytes.len()) {
-            let raw = self.input;
-            let entry = self.entry;
-            let here = Passing {
-                raw,
-                offset: entry.offset,
-                depth: entry.depth,
-            };
-            return arrive(here, bytes, rows, specs);
+        if !self.keeps_sizes(bytes.len()) {
+            return refuse(self);
         }
-        refuse(self)
+        arrive(self.passing(), bytes, rows, specs)
     }
 
     // gimli's `next_dfs`: the next entry that is no null.
+    #[tactic(auto, unfolding(crate::specs::Cursor::next_dfs))]
     pub fn next_dfs(self, bytes: &[u8], rows: &[u64], specs: &[u64]) -> CursorNext
         ensures { view_cursor_next result ≡ next_dfs entry_limit.most bytes.now rows.now specs.now (view_cursor self) }
     {
-        if self.keeps_sizes(bytes.len()) {
-            let raw = self.input;
-            let entry = self.entry;
-            let from = Passing {
-                raw,
-                offset: entry.offset,
-                depth: entry.depth,
-            };
-            let here = pass_nulls(from, bytes, rows, specs);
-            return arrive(here, bytes, rows, specs);
+        if !self.keeps_sizes(bytes.len()) {
+            return refuse(self);
         }
-        refuse(self)
+        let here = pass_nulls(self.passing(), bytes, rows, specs);
+        arrive(here, bytes, rows, specs)
     }
 
     // On to the next entry or null at a depth, by the jumps of the entry held and of those passed.
+    #[tactic(auto, unfolding(crate::specs::Cursor::next_at_depth))]
     pub fn next_at_depth(self, bytes: &[u8], rows: &[u64], specs: &[u64], depth: i64) -> CursorNext
         ensures { view_cursor_next result ≡ next_at_depth entry_limit.most bytes.now rows.now specs.now depth (view_cursor self) }
     {
-        if self.keeps_sizes(bytes.len()) {
-            return go_to(self, bytes, rows, specs, depth);
+        if !self.keeps_sizes(bytes.len()) {
+            return refuse(self);
         }
-        refuse(self)
+        go_to(self, bytes, rows, specs, depth)
     }
 
     // gimli's `next_sibling`.
+    #[tactic(auto, unfolding(crate::specs::Cursor::next_sibling))]
     pub fn next_sibling(self, bytes: &[u8], rows: &[u64], specs: &[u64]) -> CursorNext
         ensures { view_cursor_next result ≡ next_sibling entry_limit.most bytes.now rows.now specs.now (view_cursor self) }
     {
-        if self.keeps_sizes(bytes.len()) {
-            let entry = self.entry;
-            if entry.is_null() {
-                return CursorNext {
-                    answer: Next::NoMore,
-                    cursor: self,
-                };
-            }
-            return go_to(self, bytes, rows, specs, entry.depth);
+        if !self.keeps_sizes(bytes.len()) {
+            return refuse(self);
         }
-        refuse(self)
+        if self.entry.is_null() {
+            return CursorNext {
+                answer: Ok(false),
+                cursor: self,
+            };
+        }
+        go_to(self, bytes, rows, specs, self.entry.depth)
     }
 }

@@ -7,9 +7,8 @@ ghost use Rattle.entries.specs.Flat.{reading_from};
 ghost use Rattle.entries.specs.Pass.{passed_items, first_of};
 ghost use Rattle.entries.specs.Steps.{KeptRaw};
 ghost use Rattle.entries.specs.Views.{PassedAs};
-ghost use Rattle.entries.specs.declared.raw.Outcome.TheVariants.{Done};
 
-use super::raw::{EntriesRaw, Outcome, PassedEntry, keeps_raw, pass_one};
+use super::raw::{EntriesRaw, pass_one};
 use abbrev::lookup::leading;
 use reader::error::Error;
 use reader::twos::to_word;
@@ -18,7 +17,7 @@ use reader::twos::to_word;
 // stands.
 #[derive(Clone, Copy)]
 pub struct PassedEntries {
-    pub answer: Outcome,
+    pub answer: Result<(), Error>,
     pub count: usize,
     pub raw: EntriesRaw,
 }
@@ -28,25 +27,12 @@ fn put_item(out: &mut [u64], at: usize, offset: u64, depth: u64, tag: u64, count
     requires { at + 4 ≤ length out.old }
     ensures { out.new ≡ take at out.old ++ (offset ∷ depth ∷ tag ∷ count ∷ []) ++ drop (at + 4) out.old }
 {
-    out[at] = offset;
-    out[at + 1] = depth;
-    out[at + 2] = tag;
-    out[at + 3] = count;
-}
-
-// No item was refused.
-fn done(raw: EntriesRaw, count: usize) -> PassedEntries
-    ensures { result ≡ record { answer = Done; count = count; raw = raw } }
-{
-    PassedEntries {
-        answer: Outcome::Done,
-        count,
-        raw,
-    }
+    out[at..at + 4].copy_from_slice(&[offset, depth, tag, count]);
 }
 
 // Items until no byte is left, one is refused or the words are full. The first `n` rows hold the codes
 // 1, 2, 3, ..
+#[tactic(auto, using(crate::proofs::RunLaws::run_begun, crate::proofs::RunLaws::run_full))]
 fn pass_within(
     raw: EntriesRaw,
     bytes: &[u8],
@@ -61,44 +47,43 @@ fn pass_within(
 {
     let room = out.len() / 4;
     let mut here = raw;
-    let mut count: usize = 0;
-    while here.position < bytes.len() {
-        if room <= count {
-            return done(here, count);
+    for count in 0..room {
+        if here.is_empty(bytes) {
+            return PassedEntries {
+                answer: Ok(()),
+                count,
+                raw: here,
+            };
         }
-        let at = count * 4;
         let offset = (here.start + here.position) as u64;
         let depth = to_word(here.depth);
-        let passed = pass_one(here, bytes, rows, specs, n);
-        let answer = passed.answer;
-        let after = passed.raw;
-        match answer {
-            PassedEntry::Entry(tag, values) => {
-                put_item(out, at, offset, depth, tag as u64, values as u64);
+        match pass_one(here, bytes, rows, specs, n) {
+            Ok((passed, after)) => {
+                let (tag, values) = passed.unwrap_or((0, 0));
+                put_item(out, count * 4, offset, depth, u64::from(tag), values as u64);
                 here = after;
-                count += 1;
             }
-            PassedEntry::Null => {
-                put_item(out, at, offset, depth, 0, 0);
-                here = after;
-                count += 1;
-            }
-            PassedEntry::Refused(e) => {
+            Err(e) => {
                 return PassedEntries {
-                    answer: Outcome::Refused(e),
+                    answer: Err(e),
                     count,
                     raw: here,
                 };
             }
         }
     }
-    done(here, count)
+    PassedEntries {
+        answer: Ok(()),
+        count: room,
+        raw: here,
+    }
 }
 
 // The items from a state on, as many as `out` has room for: for each the offset, the depth in two's
 // complement, the tag and the count of values; a null has 0 for the last two. What is behind them in `out`
 // stays. Nothing else of an item is stored; the rows are counted once, so that codes 1, 2, 3, .. are looked
 // up directly.
+#[tactic(auto, using(crate::proofs::RawLaws::raw_kept), unfolding(crate::specs::Pass::passed_items))]
 pub fn pass_entries(
     raw: EntriesRaw,
     bytes: &[u8],
@@ -108,13 +93,12 @@ pub fn pass_entries(
 ) -> PassedEntries
     ensures { PassedAs (passed_items entry_limit.most (length out.old / 4) raw bytes.now rows.now specs.now) out.old out.new result }
 {
-    if keeps_raw(bytes.len(), raw) {
-        let n = leading(rows);
-        return pass_within(raw, bytes, rows, specs, n, out);
+    if !raw.keeps_sizes(bytes.len()) {
+        return PassedEntries {
+            answer: Err(Error::SizeLimit),
+            count: 0,
+            raw,
+        };
     }
-    PassedEntries {
-        answer: Outcome::Refused(Error::SizeLimit),
-        count: 0,
-        raw,
-    }
+    pass_within(raw, bytes, rows, specs, leading(rows), out)
 }

@@ -4,7 +4,6 @@
 
 #![tactic(auto)]
 
-mod bounds; // the bounds of a jump
 pub mod cursor; // EntriesCursor
 pub mod entry; // Entry
 pub mod flat; // items passed one after another

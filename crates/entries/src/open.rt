@@ -7,78 +7,74 @@ ghost use Rattle.entries.specs.Open.{first_entry, raw_from, cursor_over, cursor_
 ghost use Rattle.entries.specs.Cursor.{or_no_cursor};
 ghost use Rattle.reader.specs.Answer.{refused};
 ghost use Rattle.reader.specs.Errors.{number_of};
+ghost use Rattle.reader.specs.Views.{view};
 ghost use Rattle.entries.specs.Opened.{Opened as OpenedAs};
-ghost use Rattle.entries.specs.Views.{view_cursor, view_opened, view_opened_cursor, view_entry_at, view_opened_unit};
+ghost use Rattle.entries.specs.Views.{view_cursor, view_opened_cursor, view_entry_at, view_opened_unit};
 ghost use Rattle.unit.specs.Header.{size_of_header};
 ghost use Rattle.unit.specs.Parse.{debug_info, section_of};
 
 use super::cursor::{EntriesCursor, OpenedCursor, no_cursor, refuse_opening};
 use super::entry::{Entry, null_at};
-use super::raw::{EntriesRaw, Opened, Outcome, Said};
+use super::raw::EntriesRaw;
 use abbrev::rows::wipe;
-use abbrev::table::Abbreviations;
 use reader::common::MAX_SECTION;
 use reader::endianity::RunTimeEndian;
 use reader::error::Error;
 use unit::header::UnitHeader;
-use unit::parse::{Header, SectionId, parse_header};
+use unit::parse::{SectionId, parse_header};
 
 // The entry is a null at offset and depth 0 after a refusal.
 #[derive(Clone, Copy)]
 pub struct EntryAt {
-    pub answer: Outcome,
+    pub answer: Result<(), Error>,
     pub entry: Entry,
-}
-
-#[derive(Clone, Copy)]
-pub enum UnitAt {
-    Got(UnitHeader),
-    Refused(Error),
 }
 
 // A header, and a cursor before its first entry; after a refusal one that every call that reads refuses.
 #[derive(Clone, Copy)]
 pub struct OpenedUnit {
-    pub answer: UnitAt,
+    pub answer: Result<UnitHeader, Error>,
     pub cursor: EntriesCursor,
 }
 
 // gimli's `entries_raw` from an offset on.
-pub fn entries_raw(header: UnitHeader, unit: &[u8], offset: usize, endian: RunTimeEndian) -> Opened
-    ensures { view_opened result ≡ raw_from header unit.now offset endian }
+#[tactic(auto, unfolding(crate::specs::Open::raw_from))]
+pub fn entries_raw(
+    header: UnitHeader,
+    unit: &[u8],
+    offset: usize,
+    endian: RunTimeEndian,
+) -> Result<EntriesRaw, Error>
+    ensures { view result ≡ raw_from header unit.now offset endian }
 {
-    let mut refusal: u64 = 0;
-    let part = header.range_from(unit, offset, &mut refusal);
-    if refusal == 0 {
-        let encoding = header.encoding;
-        return EntriesRaw::new(part, offset, encoding, endian);
-    }
-    Opened::Refused(Error::OffsetOutOfBounds)
+    let part = header.range_from(unit, offset)?;
+    EntriesRaw::new(part, offset, header.encoding, endian)
 }
 
 // gimli's `entries_raw` from the root on.
-pub fn root_entries_raw(header: UnitHeader, unit: &[u8], endian: RunTimeEndian) -> Opened
-    ensures { view_opened result ≡ raw_from header unit.now (size_of_header header) endian }
+pub fn root_entries_raw(
+    header: UnitHeader,
+    unit: &[u8],
+    endian: RunTimeEndian,
+) -> Result<EntriesRaw, Error>
+    ensures { view result ≡ raw_from header unit.now (size_of_header header) endian }
 {
-    let offset = header.root_offset();
-    entries_raw(header, unit, offset, endian)
+    entries_raw(header, unit, header.root_offset(), endian)
 }
 
 // gimli's `entries`: a cursor over all entries.
+#[tactic(auto, unfolding(crate::specs::Open::cursor_over))]
 pub fn entries(header: UnitHeader, unit: &[u8], endian: RunTimeEndian) -> OpenedCursor
     ensures { view_opened_cursor result ≡ or_no_cursor entry_limit.most endian (cursor_over header unit.now entry_limit.most endian) }
 {
-    let mut refusal: u64 = 0;
-    let part = header.entries_buf(unit, &mut refusal);
-    if refusal == 0 {
-        let offset = header.root_offset();
-        let encoding = header.encoding;
-        return EntriesCursor::new(part, offset, encoding, endian);
+    match header.entries_buf(unit) {
+        Ok(part) => EntriesCursor::new(part, header.root_offset(), header.encoding, endian),
+        Err(e) => refuse_opening(e, endian),
     }
-    refuse_opening(Error::OffsetOutOfBounds, endian)
 }
 
 // gimli's `entries_at_offset`.
+#[tactic(auto, unfolding(crate::specs::Open::cursor_from))]
 pub fn entries_at_offset(
     header: UnitHeader,
     unit: &[u8],
@@ -87,26 +83,23 @@ pub fn entries_at_offset(
 ) -> OpenedCursor
     ensures { view_opened_cursor result ≡ or_no_cursor entry_limit.most endian (cursor_from header unit.now entry_limit.most offset endian) }
 {
-    let mut refusal: u64 = 0;
-    let part = header.range_from(unit, offset, &mut refusal);
-    if refusal == 0 {
-        let encoding = header.encoding;
-        return EntriesCursor::new(part, offset, encoding, endian);
+    match header.range_from(unit, offset) {
+        Ok(part) => EntriesCursor::new(part, offset, header.encoding, endian),
+        Err(e) => refuse_opening(e, endian),
     }
-    refuse_opening(Error::OffsetOutOfBounds, endian)
 }
 
 fn refuse_entry(error: Error) -> EntryAt
     ensures { view_entry_at result ≡ or_null entry_limit.most (refused (number_of error)) }
 {
-    let entry = null_at(0, 0);
     EntryAt {
-        answer: Outcome::Refused(error),
-        entry,
+        answer: Err(error),
+        entry: null_at(0, 0),
     }
 }
 
 // The entry that stands first in a part.
+#[tactic(auto, unfolding(crate::specs::Open::first_entry))]
 fn first_entry(
     part: &[u8],
     rows: &[u64],
@@ -117,26 +110,24 @@ fn first_entry(
 ) -> EntryAt
     ensures { view_entry_at result ≡ or_null entry_limit.most (first_entry entry_limit.most header part.now rows.now specs.now offset endian) }
 {
-    let encoding = header.encoding;
-    match EntriesRaw::new(part, offset, encoding, endian) {
-        Opened::Got(raw) => {
+    match EntriesRaw::new(part, offset, header.encoding, endian) {
+        Ok(raw) => {
             let read = raw.read_entry(part, rows, specs);
-            let answer = read.answer;
-            let entry = read.entry;
-            match answer {
-                Said::Entry => EntryAt {
-                    answer: Outcome::Done,
-                    entry,
+            match read.answer {
+                Ok(true) => EntryAt {
+                    answer: Ok(()),
+                    entry: read.entry,
                 },
-                Said::Null => refuse_entry(Error::NoEntryAtGivenOffset),
-                Said::Refused(e) => refuse_entry(e),
+                Ok(false) => refuse_entry(Error::NoEntryAtGivenOffset),
+                Err(e) => refuse_entry(e),
             }
         }
-        Opened::Refused(e) => refuse_entry(e),
+        Err(e) => refuse_entry(e),
     }
 }
 
 // gimli's `entry`.
+#[tactic(auto, unfolding(crate::specs::Open::entry_from))]
 pub fn entry(
     header: UnitHeader,
     unit: &[u8],
@@ -147,30 +138,28 @@ pub fn entry(
 ) -> EntryAt
     ensures { view_entry_at result ≡ or_null entry_limit.most (entry_from header unit.now entry_limit.most rows.now specs.now offset endian) }
 {
-    let mut refusal: u64 = 0;
-    let part = header.range_from(unit, offset, &mut refusal);
-    if refusal == 0 {
-        return first_entry(part, rows, specs, header, offset, endian);
+    match header.range_from(unit, offset) {
+        Ok(part) => first_entry(part, rows, specs, header, offset, endian),
+        Err(e) => refuse_entry(e),
     }
-    refuse_entry(Error::OffsetOutOfBounds)
 }
 
 // A cursor before the first entry of a unit.
 fn at_root(header: UnitHeader, endian: RunTimeEndian) -> EntriesCursor
     ensures { view_cursor result ≡ (own_unit entry_limit.most header endian).cursor }
 {
-    let input = EntriesRaw::at_start(header, endian);
-    let entry = null_at(0, 0);
-    EntriesCursor { input, entry }
+    EntriesCursor {
+        input: EntriesRaw::at_start(header, endian),
+        entry: null_at(0, 0),
+    }
 }
 
 fn refuse_unit(error: Error, endian: RunTimeEndian) -> OpenedUnit
     ensures { view_opened_unit result ≡ or_no_unit entry_limit.most endian (refused (number_of error)) }
 {
-    let cursor = no_cursor(endian);
     OpenedUnit {
-        answer: UnitAt::Refused(error),
-        cursor,
+        answer: Err(error),
+        cursor: no_cursor(endian),
     }
 }
 
@@ -193,17 +182,14 @@ pub fn open_unit_in(
         return refuse_unit(Error::SizeLimit, endian);
     }
     match parse_header(id, units, offset as usize, endian) {
-        Header::Got(header, _) => match header.abbreviations(abbrevs, rows, specs) {
-            Abbreviations::Got(_) => {
-                let cursor = at_root(header, endian);
-                OpenedUnit {
-                    answer: UnitAt::Got(header),
-                    cursor,
-                }
-            }
-            Abbreviations::Refused(e) => refuse_unit(e, endian),
+        Ok((header, _)) => match header.abbreviations(abbrevs, rows, specs) {
+            Ok(_) => OpenedUnit {
+                answer: Ok(header),
+                cursor: at_root(header, endian),
+            },
+            Err(e) => refuse_unit(e, endian),
         },
-        Header::Refused(e) => {
+        Err(e) => {
             wipe(rows, specs);
             refuse_unit(e, endian)
         }

@@ -1,36 +1,35 @@
 // The raw reader: its state goes in by value and comes back beside the answer. A refusal keeps it.
 
-ghost use Rattle.std.specs.Prelude.{cond, map, ◌≡◌, ◌+◌, ◌-◌, ◌^◌, ◌≤◌, ◌<◌, leb, pos, ◌+ℤ◌, ◌-ℤ◌, nat_abs, length};
-ghost use Rattle.reader.specs.Answer.{gives, end_of};
+ghost use Rattle.std.specs.Prelude.{map, ◌≡◌, ◌+◌, ◌≤◌, ◌<◌, leb, ◌-ℤ◌, pos, nat_abs, length};
+ghost use Rattle.reader.specs.Answer.{gives};
 ghost use Rattle.reader.specs.Errors.{number_of};
-ghost use Rattle.reader.specs.Views.{view_place, view_word};
+ghost use Rattle.reader.specs.Views.{view, view_read};
 ghost use Rattle.abbrev.specs.Lookup.{leading, lookup};
 ghost use Rattle.abbrev.specs.Table.{entry_limit};
 ghost use Rattle.abbrev.specs.Views.{found_of, specification_of, view_lookup};
-ghost use Rattle.attribute.specs.Attributes.{read_attributes};
 ghost use Rattle.attribute.specs.Views.{view_attribute};
 ghost use Rattle.entries.specs.Cursor.{depth_past};
 ghost use Rattle.entries.specs.Entry.{null_entry};
-ghost use Rattle.entries.specs.Pass.{passed_to, told};
-ghost use Rattle.entries.specs.Raw.{keeps_raw, moved_to, start_of, unit_source, moves, opened, empty_raw, offset_of, raw_abbreviation, refused_entry, taken, raw_entry, raw_attribute, raw_attributes, raw_skip};
-ghost use Rattle.entries.specs.Read.{abbreviation_at, code_for, raised};
-ghost use Rattle.entries.specs.Steps.{KeptRaw, Onward, took_entry};
-ghost use Rattle.entries.specs.Views.{view_opened, view_code, view_raw_abbreviation, view_raw_entry, view_raw_passed, view_raw_attribute, view_raw_attributes, view_raw_skipped};
+ghost use Rattle.entries.specs.Pass.{told, told_if};
+ghost use Rattle.entries.specs.Raw.{keeps_raw, moved_to, start_of, unit_source, opened, empty_raw, offset_of, raw_abbreviation, refused_entry, taken, raw_entry, raw_attribute, raw_attributes, raw_skip};
+ghost use Rattle.entries.specs.Read.{abbreviation_at, code_for};
+ghost use Rattle.entries.specs.Steps.{KeptRaw, Onward, depth_by, took_entry, passed_code};
+ghost use Rattle.entries.specs.Views.{view_found, view_if, passed_of, view_code, view_raw_abbreviation, view_raw_entry, view_passed, view_raw_passed, view_raw_attribute, view_raw_attributes, view_raw_skipped};
 
 use super::entry::{Entry, null_at};
-use abbrev::lookup::{Abbreviation, AttributeSpecification, Lookup, get, row};
-use attribute::parse::{Parsed, keeps_place, parse_attribute, read_attributes};
+use abbrev::lookup::{Abbreviation, AttributeSpecification, get, row};
+use attribute::parse::{MOST, keeps_place, parse_attribute, read_attributes};
 use attribute::pass::pass_attributes;
 use attribute::skip::skip_attributes;
 use attribute::value::Attribute;
-use reader::answer::{Place, Word};
+use reader::answer::Read;
 use reader::common::Encoding;
 use reader::endianity::RunTimeEndian;
 use reader::error::Error;
 use reader::leb128::uleb128;
 use unit::header::UnitHeader;
 
-#[derive(Clone, Copy)]
+#[derive(Clone, Copy, Debug, PartialEq, Eq)]
 pub struct EntriesRaw {
     // the offset in the unit where the bytes start
     pub start: usize,
@@ -41,95 +40,36 @@ pub struct EntriesRaw {
     pub endian: RunTimeEndian,
 }
 
+// What a call says, and the state behind it.
 #[derive(Clone, Copy)]
-pub enum Opened {
-    Got(EntriesRaw),
-    Refused(Error),
-}
-
-// What stands at a code: an abbreviation or a null, and the next place.
-#[derive(Clone, Copy)]
-pub enum Code {
-    Found(Abbreviation, usize),
-    Null(usize),
-    Refused(Error),
-}
-
-// What `read_abbreviation` says.
-#[derive(Clone, Copy)]
-pub enum Coded {
-    Found(Abbreviation),
-    Null,
-    Refused(Error),
-}
-
-#[derive(Clone, Copy)]
-pub struct RawAbbreviation {
-    pub answer: Coded,
+pub struct Moved<T> {
+    pub answer: Result<T, Error>,
     pub raw: EntriesRaw,
 }
 
-// What `read_attribute` says.
-#[derive(Clone, Copy)]
-pub enum ReadAttribute {
-    Got(Attribute),
-    Refused(Error),
-}
+// None for a null.
+pub type RawAbbreviation = Moved<Option<Abbreviation>>;
 
-#[derive(Clone, Copy)]
-pub struct RawAttribute {
-    pub answer: ReadAttribute,
-    pub raw: EntriesRaw,
-}
+pub type RawAttribute = Moved<Attribute>;
 
-// What is said where the value stands beside it.
-#[derive(Clone, Copy)]
-pub enum Outcome {
-    Done,
-    Refused(Error),
-}
+pub type RawSkipped = Moved<()>;
+
+// Of an entry its tag and how many values it has, none for a null.
+pub type RawPassed = Moved<Option<(u16, usize)>>;
 
 // Places that hold no value hold one fixed attribute.
 #[derive(Clone, Copy)]
 pub struct RawAttributes {
-    pub answer: Outcome,
+    pub answer: Result<(), Error>,
     pub attrs: [Attribute; 64],
     pub raw: EntriesRaw,
 }
 
-#[derive(Clone, Copy)]
-pub struct RawSkipped {
-    pub answer: Outcome,
-    pub raw: EntriesRaw,
-}
-
-// What `read_entry` says of the entry beside it.
-#[derive(Clone, Copy)]
-pub enum Said {
-    Entry,
-    Null,
-    Refused(Error),
-}
-
-// The entry is a null at offset and depth 0 after a refusal.
+// Whether an entry or a null was read; after a refusal it is a null at offset and depth 0.
 #[derive(Clone, Copy)]
 pub struct RawEntry {
-    pub answer: Said,
+    pub answer: Result<bool, Error>,
     pub entry: Entry,
-    pub raw: EntriesRaw,
-}
-
-// What `pass_entry` says: of an entry its tag and how many values it has.
-#[derive(Clone, Copy)]
-pub enum PassedEntry {
-    Entry(u16, usize),
-    Null,
-    Refused(Error),
-}
-
-#[derive(Clone, Copy)]
-pub struct RawPassed {
-    pub answer: PassedEntry,
     pub raw: EntriesRaw,
 }
 
@@ -137,14 +77,12 @@ pub struct RawPassed {
 pub(crate) fn keeps_depth(depth: i64, position: usize) -> bool
     ensures { result ≡ leb (nat_abs depth) position }
 {
-    if 0 <= depth {
-        return depth as usize <= position;
-    }
-    ((-1 - depth) as usize) < position
+    depth.unsigned_abs() <= position as u64
 }
 
 // A code that is not 0, where the first `n` rows hold the codes 1, 2, 3, ..
-fn row_for(rows: &[u64], specs: &[u64], n: usize, code: u64) -> Lookup
+#[tactic(auto, using(abbrev::proofs::Lookups::direct_row))]
+fn row_for(rows: &[u64], specs: &[u64], n: usize, code: u64) -> Result<Option<Abbreviation>, Error>
     requires n_bound { n ≤ leading rows.now }
     requires code_nonzero { 0 < code }
     ensures { view_lookup result ≡ lookup entry_limit.most rows.now specs.now code }
@@ -152,59 +90,39 @@ fn row_for(rows: &[u64], specs: &[u64], n: usize, code: u64) -> Lookup
     if (n as u64) < code {
         return get(rows, specs, code);
     }
-    let i = (code - 1) as usize;
-    row(rows, specs, i)
+    row(rows, specs, (code - 1) as usize)
 }
 
-// What a code stands for. It takes the code and not the bytes: a slice that is handed on once more is
-// waited for.
-fn code_for(code: Word, rows: &[u64], specs: &[u64], n: usize) -> Code
+// What a code stands for, none for a null. It takes the code and not the bytes: a slice that is handed on
+// once more is waited for.
+fn code_for(code: Read<u64>, rows: &[u64], specs: &[u64], n: usize) -> Read<Option<Abbreviation>>
     requires { n ≤ leading rows.now }
-    ensures { view_code result ≡ code_for (lookup entry_limit.most rows.now specs.now) (view_word code) }
+    ensures { view_code result ≡ code_for (lookup entry_limit.most rows.now specs.now) (view_read code) }
 {
-    match code {
-        Word::Got(number, next) => {
-            if number == 0 {
-                return Code::Null(next);
-            }
-            match row_for(rows, specs, n, number) {
-                Lookup::Found(abbreviation) => Code::Found(abbreviation, next),
-                Lookup::Absent => Code::Refused(Error::InvalidAbbreviationCode),
-                Lookup::Refused(e) => Code::Refused(e),
-            }
-        }
-        Word::Refused(e) => Code::Refused(e),
+    let (number, next) = code?;
+    if number == 0 {
+        return Ok((None, next));
+    }
+    match row_for(rows, specs, n, number)? {
+        Some(abbreviation) => Ok((Some(abbreviation), next)),
+        None => Err(Error::InvalidAbbreviationCode),
     }
 }
 
-// What stands at a place that has a code, where the first `n` rows hold the codes 1, 2, 3, ..
-pub(crate) fn code_direct(bytes: &[u8], rows: &[u64], specs: &[u64], n: usize, at: usize) -> Code
+// What stands at a place that has a code, where the first `n` rows hold the codes 1, 2, 3, .., and the
+// place behind the code.
+#[tactic(auto, unfolding(crate::specs::Read::abbreviation_at))]
+pub(crate) fn code_at(
+    bytes: &[u8],
+    rows: &[u64],
+    specs: &[u64],
+    n: usize,
+    at: usize,
+) -> Read<Option<Abbreviation>>
     requires { n ≤ leading rows.now }
     ensures { view_code result ≡ abbreviation_at entry_limit.most bytes.now rows.now specs.now at }
 {
     code_for(uleb128(bytes, at), rows, specs, n)
-}
-
-// The same by the lowest row with the code.
-fn code_at(bytes: &[u8], rows: &[u64], specs: &[u64], at: usize) -> Code
-    ensures { view_code result ≡ abbreviation_at entry_limit.most bytes.now rows.now specs.now at }
-{
-    code_for(uleb128(bytes, at), rows, specs, 0)
-}
-
-// The state at another place and depth.
-pub(crate) fn moved(raw: EntriesRaw, position: usize, depth: i64) -> EntriesRaw
-    ensures { result ≡ moved_to raw position depth }
-{
-    let encoding = raw.encoding;
-    let endian = raw.endian;
-    EntriesRaw {
-        start: raw.start,
-        position,
-        depth,
-        encoding,
-        endian,
-    }
 }
 
 // The state before the first byte.
@@ -220,66 +138,40 @@ pub(crate) fn start_of(start: usize, encoding: Encoding, endian: RunTimeEndian) 
     }
 }
 
-// The state past a value.
-fn past_value(raw: EntriesRaw, position: usize) -> EntriesRaw
-    ensures { result ≡ moved_to raw position raw.depth }
+// The state at a place past a code, by what that stands for.
+pub(crate) fn past_code(raw: EntriesRaw, found: Option<Abbreviation>, position: usize) -> EntriesRaw
+    requires { Onward raw position }
+    ensures { result ≡ moved_to raw position (depth_by (view_found found) raw.depth) }
 {
-    let encoding = raw.encoding;
-    let endian = raw.endian;
+    let depth = match found {
+        Some(abbreviation) => raw.depth + i64::from(abbreviation.has_children),
+        None => raw.depth - 1,
+    };
     EntriesRaw {
-        start: raw.start,
         position,
-        depth: raw.depth,
-        encoding,
-        endian,
+        depth,
+        ..raw
     }
-}
-
-// The depth after an entry.
-pub(crate) fn depth_after(depth: i64, has_children: bool) -> i64
-    requires { nat_abs depth < 2 ^ 63 - 1 }
-    ensures { result ≡ cond has_children (depth +ℤ pos 1) depth }
-{
-    if has_children { depth + 1 } else { depth }
-}
-
-// The depth after a null.
-pub(crate) fn depth_below(depth: i64) -> i64
-    requires { nat_abs depth < 2 ^ 63 - 1 }
-    ensures { result ≡ depth -ℤ pos 1 }
-{
-    depth - 1
-}
-
-// Whether a state keeps document 01's sizes over so many bytes.
-pub(crate) fn keeps_raw(count: usize, raw: EntriesRaw) -> bool
-    ensures { result ≡ keeps_raw count raw }
-{
-    if keeps_place(count, raw.start, raw.position) {
-        return keeps_depth(raw.depth, raw.position);
-    }
-    false
 }
 
 // The depth after the code that is read next, whatever follows it.
+#[tactic(auto, using(crate::proofs::RawLaws::code_onward))]
 pub(crate) fn depth_at(raw: EntriesRaw, bytes: &[u8], rows: &[u64], specs: &[u64]) -> i64
     requires { KeptRaw (length bytes.now) raw }
     ensures { result ≡ depth_past entry_limit.most bytes.now rows.now specs.now raw }
 {
-    let depth = raw.depth;
-    match code_at(bytes, rows, specs, raw.position) {
-        Code::Found(abbreviation, _) => depth_after(depth, abbreviation.has_children),
-        Code::Null(_) => depth_below(depth),
-        Code::Refused(_) => depth,
+    match code_at(bytes, rows, specs, 0, raw.position) {
+        Ok((found, next)) => past_code(raw, found, next).depth,
+        Err(_) => raw.depth,
     }
 }
 
 // Refused: the state is kept.
-fn refuse(raw: EntriesRaw, error: Error) -> RawEntry
+fn refuse_entry(raw: EntriesRaw, error: Error) -> RawEntry
     ensures { view_raw_entry result ≡ refused_entry entry_limit.most raw (number_of error) }
 {
     RawEntry {
-        answer: Said::Refused(error),
+        answer: Err(error),
         entry: null_at(0, 0),
         raw,
     }
@@ -290,15 +182,10 @@ fn take_null(raw: EntriesRaw, next: usize) -> RawEntry
     requires { Onward raw next }
     ensures { view_raw_entry result ≡ taken entry_limit.most raw (raw.depth -ℤ pos 1) (gives (null_entry entry_limit.most (raw.start + raw.position) raw.depth) next) }
 {
-    let depth = raw.depth;
-    let offset = raw.start + raw.position;
-    let below = depth_below(depth);
-    let entry = null_at(offset, depth);
-    let after = moved(raw, next, below);
     RawEntry {
-        answer: Said::Null,
-        entry,
-        raw: after,
+        answer: Ok(false),
+        entry: null_at(raw.start + raw.position, raw.depth),
+        raw: past_code(raw, None, next),
     }
 }
 
@@ -312,102 +199,96 @@ fn take_entry(
     requires { Onward raw next }
     ensures { view_raw_entry result ≡ took_entry raw (found_of abbreviation) (map view_attribute attrs) next }
 {
-    let depth = raw.depth;
-    let offset = raw.start + raw.position;
-    let has_children = abbreviation.has_children;
-    let entry = Entry {
-        tag: abbreviation.tag,
-        has_children,
-        offset,
-        depth,
-        count: abbreviation.count,
-        attrs,
-    };
-    let down = depth_after(depth, has_children);
-    let after = moved(raw, next, down);
     RawEntry {
-        answer: Said::Entry,
-        entry,
-        raw: after,
+        answer: Ok(true),
+        entry: Entry {
+            tag: abbreviation.tag,
+            has_children: abbreviation.has_children,
+            offset: raw.start + raw.position,
+            depth: raw.depth,
+            count: abbreviation.count,
+            attrs,
+        },
+        raw: past_code(raw, Some(abbreviation), next),
     }
 }
 
-// Past the values of an entry, from a place behind its code.
-fn pass_values(
+// Past what a code stands for, from the place behind it. Inlined, since a call would copy `found`.
+#[inline(always)]
+pub(crate) fn pass_values(
     raw: EntriesRaw,
     bytes: &[u8],
     specs: &[u64],
-    abbreviation: Abbreviation,
+    found: Option<Abbreviation>,
     next: usize,
-) -> RawPassed
+) -> Result<EntriesRaw, Error>
     requires { Onward raw next }
-    ensures { view_raw_passed result ≡ moves raw (raised (found_of abbreviation).children raw.depth) (passed_to (found_of abbreviation) (end_of (read_attributes entry_limit.most bytes.now raw.start raw.encoding raw.endian specs.now (found_of abbreviation) next))) }
+    ensures { view result ≡ passed_code entry_limit.most bytes.now specs.now raw (view_found found) next }
 {
-    let start = raw.start;
-    let encoding = raw.encoding;
-    let endian = raw.endian;
-    match pass_attributes(bytes, start, next, encoding, endian, abbreviation, specs) {
-        Place::At(end) => {
-            let depth = depth_after(raw.depth, abbreviation.has_children);
-            let after = moved(raw, end, depth);
-            RawPassed {
-                answer: PassedEntry::Entry(abbreviation.tag, abbreviation.count),
-                raw: after,
-            }
-        }
-        Place::Refused(e) => RawPassed {
-            answer: PassedEntry::Refused(e),
-            raw,
-        },
-    }
+    let coded = past_code(raw, found, next);
+    let Some(abbreviation) = found else {
+        return Ok(coded);
+    };
+    let position = pass_attributes(
+        bytes,
+        raw.start,
+        next,
+        raw.encoding,
+        raw.endian,
+        abbreviation,
+        specs,
+    )?;
+    Ok(EntriesRaw { position, ..coded })
 }
 
-// Past the item at the state's place, where the first `n` rows hold the codes 1, 2, 3, ..
+// Of an entry its tag and how many values it has.
+fn tell(found: Option<Abbreviation>) -> Option<(u16, usize)>
+    ensures { view_if passed_of result ≡ told_if (view_found found) }
+{
+    found.map(|abbreviation| (abbreviation.tag, abbreviation.count))
+}
+
+// Past the item at the state's place, where the first `n` rows hold the codes 1, 2, 3, ..: what
+// `pass_entry` says, and the state behind it.
+#[tactic(auto, using(crate::proofs::PassLaws::told_refused, crate::proofs::PassLaws::told_passed, crate::proofs::PassLaws::told_not_passed, crate::proofs::RawLaws::code_onward, crate::proofs::RawLaws::raw_keeps))]
 pub(crate) fn pass_one(
     raw: EntriesRaw,
     bytes: &[u8],
     rows: &[u64],
     specs: &[u64],
     n: usize,
-) -> RawPassed
+) -> Result<(Option<(u16, usize)>, EntriesRaw), Error>
     requires kept_raw { KeptRaw (length bytes.now) raw }
     requires n_bound { n ≤ leading rows.now }
-    ensures { view_raw_passed result ≡ told (raw_entry entry_limit.most raw bytes.now rows.now specs.now) }
+    ensures { view_passed raw result ≡ told (raw_entry entry_limit.most raw bytes.now rows.now specs.now) }
 {
-    match code_direct(bytes, rows, specs, n, raw.position) {
-        Code::Found(abbreviation, next) => pass_values(raw, bytes, specs, abbreviation, next),
-        Code::Null(next) => {
-            let below = depth_below(raw.depth);
-            let after = moved(raw, next, below);
-            RawPassed {
-                answer: PassedEntry::Null,
-                raw: after,
-            }
-        }
-        Code::Refused(e) => RawPassed {
-            answer: PassedEntry::Refused(e),
-            raw,
-        },
-    }
+    let (found, next) = code_at(bytes, rows, specs, n, raw.position)?;
+    let after = pass_values(raw, bytes, specs, found, next)?;
+    Ok((tell(found), after))
 }
 
 impl EntriesRaw {
     // Over the bytes of a part that starts at `start`.
-    pub fn new(bytes: &[u8], start: usize, encoding: Encoding, endian: RunTimeEndian) -> Opened
-        ensures { view_opened result ≡ opened (length bytes.now) start encoding endian }
+    #[tactic(auto, unfolding(crate::specs::Raw::opened))]
+    pub fn new(
+        bytes: &[u8],
+        start: usize,
+        encoding: Encoding,
+        endian: RunTimeEndian,
+    ) -> Result<EntriesRaw, Error>
+        ensures { view result ≡ opened (length bytes.now) start encoding endian }
     {
         if keeps_place(bytes.len(), start, 0) {
-            let raw = start_of(start, encoding, endian);
-            return Opened::Got(raw);
+            return Ok(start_of(start, encoding, endian));
         }
-        Opened::Refused(Error::SizeLimit)
+        Err(Error::SizeLimit)
     }
 
     // Whether a state that anybody may have made keeps document 01's sizes over so many bytes.
     pub fn keeps_sizes(self, count: usize) -> bool
         ensures { result ≡ keeps_raw count self }
     {
-        keeps_raw(count, self)
+        keeps_place(count, self.start, self.position) && keeps_depth(self.depth, self.position)
     }
 
     // Before the root of a unit, over the part that `entries_buf` hands on. Nothing is asked of the part
@@ -415,11 +296,10 @@ impl EntriesRaw {
     pub fn at_start(header: UnitHeader, endian: RunTimeEndian) -> EntriesRaw
         ensures { result ≡ start_of (unit_source header endian) }
     {
-        let start = header.root_offset();
-        let encoding = header.encoding;
-        start_of(start, encoding, endian)
+        start_of(header.root_offset(), header.encoding, endian)
     }
 
+    #[tactic(auto, unfolding(crate::specs::Raw::empty_raw))]
     pub fn is_empty(self, bytes: &[u8]) -> bool
         ensures { result ≡ empty_raw (length bytes.now) self }
     {
@@ -427,19 +307,15 @@ impl EntriesRaw {
     }
 
     // Refused with 1 for a made-up state.
-    pub fn next_offset(self) -> Place
-        ensures { view_place result ≡ offset_of self }
+    #[tactic(auto, unfolding(crate::specs::Raw::offset_of))]
+    pub fn next_offset(self) -> Result<usize, Error>
+        ensures { view result ≡ offset_of self }
     {
-        let start = self.start;
-        let position = self.position;
-        if 0x7fff_ffff_ffff_ffff < start {
-            return Place::Refused(Error::SizeLimit);
+        let offset = self.start.saturating_add(self.position);
+        if MOST < offset {
+            return Err(Error::SizeLimit);
         }
-        if 0x7fff_ffff_ffff_ffff - start < position {
-            return Place::Refused(Error::SizeLimit);
-        }
-        let offset = start + position;
-        Place::At(offset)
+        Ok(offset)
     }
 
     pub fn next_depth(self) -> i64
@@ -448,72 +324,64 @@ impl EntriesRaw {
         self.depth
     }
 
+    // A refusal keeps the state.
+    fn refuse<T>(self, error: Error) -> Moved<T>
+        ensures answer { result.answer ≡ Err error }
+        ensures raw { result.raw ≡ self }
+    {
+        Moved {
+            answer: Err(error),
+            raw: self,
+        }
+    }
+
     // gimli's `read_abbreviation`.
+    #[tactic(auto, using(crate::proofs::RawLaws::code_onward, crate::proofs::RawLaws::raw_kept), unfolding(crate::specs::Raw::raw_abbreviation))]
     pub fn read_abbreviation(self, bytes: &[u8], rows: &[u64], specs: &[u64]) -> RawAbbreviation
         ensures { view_raw_abbreviation result ≡ raw_abbreviation entry_limit.most self bytes.now rows.now specs.now }
     {
-        if keeps_raw(bytes.len(), self) {
-            let depth = self.depth;
-            match code_at(bytes, rows, specs, self.position) {
-                Code::Found(abbreviation, next) => {
-                    let after = depth_after(depth, abbreviation.has_children);
-                    let raw = moved(self, next, after);
-                    return RawAbbreviation {
-                        answer: Coded::Found(abbreviation),
-                        raw,
-                    };
-                }
-                Code::Null(next) => {
-                    let raw = moved(self, next, depth_below(depth));
-                    return RawAbbreviation {
-                        answer: Coded::Null,
-                        raw,
-                    };
-                }
-                Code::Refused(e) => {
-                    return RawAbbreviation {
-                        answer: Coded::Refused(e),
-                        raw: self,
-                    };
-                }
-            }
+        if !self.keeps_sizes(bytes.len()) {
+            return self.refuse(Error::SizeLimit);
         }
-        RawAbbreviation {
-            answer: Coded::Refused(Error::SizeLimit),
-            raw: self,
+        let (found, next) = match code_at(bytes, rows, specs, 0, self.position) {
+            Ok(read) => read,
+            Err(e) => return self.refuse(e),
+        };
+        Moved {
+            answer: Ok(found),
+            raw: past_code(self, found, next),
         }
     }
 
     // gimli's `read_attribute`.
+    #[tactic(auto, unfolding(crate::specs::Raw::raw_attribute))]
     pub fn read_attribute(self, bytes: &[u8], spec: AttributeSpecification) -> RawAttribute
         ensures { view_raw_attribute result ≡ raw_attribute self bytes.now (specification_of spec) }
     {
-        if keeps_raw(bytes.len(), self) {
-            let encoding = self.encoding;
-            let endian = self.endian;
-            match parse_attribute(bytes, self.start, self.position, encoding, endian, spec) {
-                Parsed::Got(attribute, next) => {
-                    let raw = past_value(self, next);
-                    return RawAttribute {
-                        answer: ReadAttribute::Got(attribute),
-                        raw,
-                    };
-                }
-                Parsed::Refused(e) => {
-                    return RawAttribute {
-                        answer: ReadAttribute::Refused(e),
-                        raw: self,
-                    };
-                }
-            }
+        if !self.keeps_sizes(bytes.len()) {
+            return self.refuse(Error::SizeLimit);
         }
-        RawAttribute {
-            answer: ReadAttribute::Refused(Error::SizeLimit),
-            raw: self,
+        match parse_attribute(
+            bytes,
+            self.start,
+            self.position,
+            self.encoding,
+            self.endian,
+            spec,
+        ) {
+            Ok((attribute, next)) => Moved {
+                answer: Ok(attribute),
+                raw: EntriesRaw {
+                    position: next,
+                    ..self
+                },
+            },
+            Err(e) => self.refuse(e),
         }
     }
 
     // gimli's `read_attributes`, of an abbreviation.
+    #[tactic(auto, unfolding(crate::specs::Raw::raw_attributes, attribute::specs::Attributes::stored))]
     pub fn read_attributes(
         self,
         bytes: &[u8],
@@ -522,42 +390,32 @@ impl EntriesRaw {
     ) -> RawAttributes
         ensures { view_raw_attributes result ≡ raw_attributes entry_limit.most self bytes.now specs.now (found_of abbreviation) }
     {
-        if keeps_raw(bytes.len(), self) {
-            let start = self.start;
-            let at = self.position;
-            let encoding = self.encoding;
-            let endian = self.endian;
-            let read = read_attributes(bytes, start, at, encoding, endian, abbreviation, specs);
-            let end = read.end;
-            let attrs = read.attrs;
-            match end {
-                Place::At(next) => {
-                    let raw = past_value(self, next);
-                    return RawAttributes {
-                        answer: Outcome::Done,
-                        attrs,
-                        raw,
-                    };
-                }
-                Place::Refused(e) => {
-                    return RawAttributes {
-                        answer: Outcome::Refused(e),
-                        attrs,
-                        raw: self,
-                    };
-                }
-            }
+        if !self.keeps_sizes(bytes.len()) {
+            return RawAttributes {
+                answer: Err(Error::SizeLimit),
+                attrs: [Attribute::none(); 64],
+                raw: self,
+            };
         }
-        let none = null_at(0, 0);
-        let attrs = none.attrs;
-        RawAttributes {
-            answer: Outcome::Refused(Error::SizeLimit),
-            attrs,
-            raw: self,
-        }
+        let read = read_attributes(
+            bytes,
+            self.start,
+            self.position,
+            self.encoding,
+            self.endian,
+            abbreviation,
+            specs,
+        );
+        let attrs = read.attrs;
+        let (answer, raw) = match read.end {
+            Ok(position) => (Ok(()), EntriesRaw { position, ..self }),
+            Err(e) => (Err(e), self),
+        };
+        RawAttributes { answer, attrs, raw }
     }
 
     // gimli's `skip_attributes`.
+    #[tactic(auto, unfolding(crate::specs::Raw::raw_skip))]
     pub fn skip_attributes(
         self,
         bytes: &[u8],
@@ -566,84 +424,77 @@ impl EntriesRaw {
     ) -> RawSkipped
         ensures { view_raw_skipped result ≡ raw_skip entry_limit.most self bytes.now specs.now (found_of abbreviation) }
     {
-        if keeps_raw(bytes.len(), self) {
-            let start = self.start;
-            let at = self.position;
-            let encoding = self.encoding;
-            let endian = self.endian;
-            match skip_attributes(bytes, start, at, encoding, endian, abbreviation, specs) {
-                Place::At(next) => {
-                    let raw = past_value(self, next);
-                    return RawSkipped {
-                        answer: Outcome::Done,
-                        raw,
-                    };
-                }
-                Place::Refused(e) => {
-                    return RawSkipped {
-                        answer: Outcome::Refused(e),
-                        raw: self,
-                    };
-                }
-            }
+        if !self.keeps_sizes(bytes.len()) {
+            return self.refuse(Error::SizeLimit);
         }
-        RawSkipped {
-            answer: Outcome::Refused(Error::SizeLimit),
-            raw: self,
+        let end = skip_attributes(
+            bytes,
+            self.start,
+            self.position,
+            self.encoding,
+            self.endian,
+            abbreviation,
+            specs,
+        );
+        let next = match end {
+            Ok(next) => next,
+            Err(e) => return self.refuse(e),
+        };
+        Moved {
+            answer: Ok(()),
+            raw: EntriesRaw {
+                position: next,
+                ..self
+            },
         }
     }
 
-    // gimli's `read_entry`.
+    // gimli's `read_entry`. What is refused returns at once: where arms meet, the entry is copied once more.
+    #[tactic(auto, using(crate::proofs::RawLaws::entry_onward, crate::proofs::RawLaws::entry_read, crate::proofs::RawLaws::entry_refused, crate::proofs::RawLaws::code_onward, crate::proofs::RawLaws::raw_kept), unfolding(crate::specs::Raw::raw_entry, crate::specs::Read::entry_at, crate::specs::Read::entry_after))]
     pub fn read_entry(self, bytes: &[u8], rows: &[u64], specs: &[u64]) -> RawEntry
         ensures { view_raw_entry result ≡ raw_entry entry_limit.most self bytes.now rows.now specs.now }
     {
-        if keeps_raw(bytes.len(), self) {
-            match code_at(bytes, rows, specs, self.position) {
-                Code::Found(abbreviation, next) => {
-                    let encoding = self.encoding;
-                    let endian = self.endian;
-                    let start = self.start;
-                    let read = read_attributes(
-                        bytes,
-                        start,
-                        next,
-                        encoding,
-                        endian,
-                        abbreviation,
-                        specs,
-                    );
-                    let end = read.end;
-                    let attrs = read.attrs;
-                    match end {
-                        Place::At(after) => {
-                            return take_entry(self, abbreviation, attrs, after);
-                        }
-                        Place::Refused(e) => {
-                            return refuse(self, e);
-                        }
-                    }
-                }
-                Code::Null(next) => {
-                    return take_null(self, next);
-                }
-                Code::Refused(e) => {
-                    return refuse(self, e);
-                }
-            }
+        if !self.keeps_sizes(bytes.len()) {
+            return refuse_entry(self, Error::SizeLimit);
         }
-        refuse(self, Error::SizeLimit)
+        let (found, next) = match code_at(bytes, rows, specs, 0, self.position) {
+            Ok(read) => read,
+            Err(e) => return refuse_entry(self, e),
+        };
+        let Some(abbreviation) = found else {
+            return take_null(self, next);
+        };
+        let read = read_attributes(
+            bytes,
+            self.start,
+            next,
+            self.encoding,
+            self.endian,
+            abbreviation,
+            specs,
+        );
+        let after = match read.end {
+            Ok(after) => after,
+            Err(e) => return refuse_entry(self, e),
+        };
+        let attrs = read.attrs;
+        take_entry(self, abbreviation, attrs, after)
     }
 
     // Past what `read_entry` would read, with nothing stored.
+    #[tactic(auto, using(crate::proofs::RawLaws::raw_kept), unfolding(crate::specs::Raw::raw_entry))]
     pub fn pass_entry(self, bytes: &[u8], rows: &[u64], specs: &[u64]) -> RawPassed
         ensures { view_raw_passed result ≡ told (raw_entry entry_limit.most self bytes.now rows.now specs.now) }
     {
-        if keeps_raw(bytes.len(), self) {
-            return pass_one(self, bytes, rows, specs, 0);
+        if !self.keeps_sizes(bytes.len()) {
+            return self.refuse(Error::SizeLimit);
         }
-        RawPassed {
-            answer: PassedEntry::Refused(Error::SizeLimit),
-            raw: self,
+        match pass_one(self, bytes, rows, specs, 0) {
+            Ok((passed, raw)) => Moved {
+                answer: Ok(passed),
+                raw,
+            },
+            Err(e) => self.refuse(e),
         }
     }
 }

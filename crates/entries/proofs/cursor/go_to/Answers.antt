@@ -12,24 +12,16 @@ use mir.Syntax.{w64}
 use mir.Val.{to_z, of_z}
 use Rattle.entries.proofs.cursor.go_to.Goals as goal
 
-pub jump_from-raw-requires : goal.jump_from-raw-requires
-unfolding to_depth
-jump_from-raw-requires c = (cursor_kept 64 _ (view_cursor c.args.cursor) c.requires).0
-
 pub pass_to-here-requires : goal.pass_to-here-requires
-unfolding to_depth
 pass_to-here-requires c =
     let a = c.args in
     let k = cursor_kept 64 _ (view_cursor a.cursor) c.requires in
-    subst (KeptRaw (length a.bytes.now)) (sym c.jump_from-raw.ensures) (jump_kept (length a.bytes.now) a.cursor.input (view_entry a.cursor.entry) k.0 k.1)
-
-pub arrive-requires : goal.arrive-requires
-unfolding to_depth
-arrive-requires c = c.pass_to-here.ensures.kept
+    subst (KeptRaw (length a.bytes.now)) (sym c.jump_from.ensures) (jump_kept (length a.bytes.now) a.cursor.input (view_entry a.cursor.entry) k.0 k.1)
 
 pub returns : goal.returns
 unfolding to_depth
 returns c =
     let a = c.args in
-    let e : to_z w64 (of_z w64 c.args.cursor.entry.depth) ≡ c.args.cursor.entry.depth = search rules in
-    c.arrive.ensures ∙ arrived_at 64 a.bytes.now a.rows.now a.specs.now (by_jump (length a.bytes.now)) (jumps_on 64 a.bytes.now a.rows.now a.specs.now) (stands_at a.depth) (view_cursor a.cursor) _ c.pass_to-here.result c.jump_from-raw.ensures refl e (rw (to_z-of_z c.ranges.depth) at c.pass_to-here.ensures)
+    let e : to_z w64 (of_z w64 c.passing.result.depth) ≡ c.passing.result.depth = search rules in
+    let p = rw (e, c.passing.ensures, c.jump_from.ensures, to_z-of_z c.ranges.depth) at c.pass_to-here.ensures in
+    c.arrive.ensures ∙ arrived_at 64 a.bytes.now a.rows.now a.specs.now (by_jump (length a.bytes.now)) (jumps_on 64 a.bytes.now a.rows.now a.specs.now) (stands_at a.depth) (view_cursor a.cursor) refl p

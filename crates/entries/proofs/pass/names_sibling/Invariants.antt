@@ -1,9 +1,8 @@
-use Prim.Native.Nat.{◌-◌}
-use Rattle.entries.proofs.PassLaws.{Unnamed}
+use Rattle.std.proofs.Common.{◌≡◌, ◌+◌, ◌-◌, ◌*◌, drop}
+use Rattle.abbrev.specs.Lookup.{specs_from}
+use Rattle.entries.specs.Steps.{names_any}
 use Rattle.entries.proofs.pass.names_sibling.Given as goal
 
 abbrev pub invariant-loop-i : goal.invariant-loop-i
-invariant-loop-i l = Unnamed 1 l.specs l.first l.count l.i
-
-abbrev pub decreases-loop-i : goal.decreases-loop-i
-decreases-loop-i l = l.count - l.i
+invariant-loop-i l =
+    names_any 1 (specs_from l.count (drop (l.first * 3) l.specs)) ≡ names_any 1 (specs_from (l.count - l.i) (drop ((l.first + l.i) * 3) l.specs))

@@ -1,15 +1,17 @@
-use Rattle.attribute.proofs.ListLaws.{nothing}
-use Rattle.attribute.specs.Views.{view_attribute}
-use Rattle.attribute.specs.declared.value.Attribute.{Attribute}
-use Rattle.entries.proofs.EntryLaws.{viewed, get_d_in, below_mapped}
+use Rattle.std.proofs.lemmas.Iterator.{YieldsList-from_slice, YieldsList-from_take}
+use Rattle.std.proofs.lemmas.Iterator.Search.{find_from_yields_List}
+use Rattle.entries.proofs.EntryLaws.{named_find}
+use Rattle.entries.specs.Entry.{attr_of}
 use borrow.Author.Rules.{rules}
-use borrow.Author.Tests.{lt-ltb, le-ltb}
-use mathlib.Core.Option.{some}
-use mathlib.Core.Path.{ap}
+use borrow.Author.Tests.{tests}
+use lib.Dec.{eqb}
+use mathlib.Core.Path.{ap, ◌∙◌}
+use Rattle.entries.specs.Views.{view_named}
 use Rattle.entries.proofs.entry.Entry.attr.Goals as goal
 
-pub returns-then-i-lt64 : goal.returns-then-i-lt64
-returns-then-i-lt64 c = rw (c.place_of-i.ensures, lt-ltb _ 64 c.if-i-lt64.true, viewed c.args.self.attrs c.place_of-i.result) (ap (λ (a : Attribute). some (view_attribute a)) (get_d_in c.args.self.attrs c.place_of-i.result _ nothing (search (rules, below_mapped))))
-
 pub returns : goal.returns
-returns c = rw (c.place_of-i.ensures, le-ltb _ 64 c.if-i-lt64.false)
+unfolding attr_of
+returns c =
+    let a = c.args in
+    let e = find_from_yields_List (λ x. eqb x.name a.name) _ _ c.find.result c.find.ensures.ran (YieldsList-from_take a.self.count (YieldsList-from_slice a.self.attrs cc) cc) (λ x b q k. search (rules, tests)) in
+    ap view_named (c.copied.ensures ∙ e) ∙ named_find a.name a.self.count a.self.attrs
