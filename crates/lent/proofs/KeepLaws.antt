@@ -6,14 +6,16 @@ use mathlib.Core.Option.{Option, none, some}
 use Prim.Native.Nat.{ℕ}
 use lib.Dec.{eqb}
 use lib.ListN.{length}
+use Rattle.std.specs.Prelude.{Result}
+use Rattle.std.specs.Prelude as code
+use Rattle.reader.specs.declared.error.Error.{Error}
 use Rattle.reader.specs.Answer.{Answer, got, refused}
 use Rattle.reader.proofs.Answers.{cond_by}
 use Rattle.abbrev.specs.Lookup.{Found}
+use Rattle.abbrev.specs.declared.lookup.Abbreviation.{Abbreviation}
 use Rattle.attribute.specs.Attributes.{pad}
 use Rattle.entries.specs.Raw.{keeps_raw, Moved, Taken, Listed, raw_abbreviation, raw_entry, raw_attributes, raw_skip}
-use Rattle.entries.specs.declared.raw.Coded.{Coded}
 use Rattle.entries.specs.declared.raw.EntriesRaw.{EntriesRaw}
-use Rattle.entries.specs.declared.raw.Outcome.{Outcome}
 use Rattle.entries.proofs.KeepLaws.{abbreviation_keeps, entry_keeps, attributes_keeps, skip_keeps}
 use Rattle.lent.specs.Calls.{skipped_call, values_end, after_code, lent_call}
 use Rattle.lent.specs.Views.{view_read_entry, view_read_abbreviation, view_read_attributes, view_skipped}
@@ -24,13 +26,13 @@ module _ (most : ℕ) (w : EntriesRaw) (s : List ℕ) (h : keeps_raw (length s) 
   pub lent_entry_keeps : (rows specs : List ℕ) (r : ReadEntry) → view_read_entry r v ≡ raw_entry most w s rows specs → keeps_raw (length s) v ≡ true
   lent_entry_keeps rows specs r e = ap (λ (x : Taken). keeps_raw (length s) x.raw) e ∙ entry_keeps most w s h rows specs
 
-  pub lent_abbreviation_keeps : (rows specs : List ℕ) (r : Coded) → view_read_abbreviation r v ≡ raw_abbreviation most w s rows specs → keeps_raw (length s) v ≡ true
+  pub lent_abbreviation_keeps : (rows specs : List ℕ) (r : Result (code.Option Abbreviation) Error) → view_read_abbreviation r v ≡ raw_abbreviation most w s rows specs → keeps_raw (length s) v ≡ true
   lent_abbreviation_keeps rows specs r e = ap (λ (x : Moved (Option Found)). keeps_raw (length s) x.raw) e ∙ abbreviation_keeps most w s h rows specs
 
   pub lent_attributes_keeps : (specs : List ℕ) (f : Found) (r : ReadAttributes) → view_read_attributes r v ≡ raw_attributes most w s specs f → keeps_raw (length s) v ≡ true
   lent_attributes_keeps specs f r e = ap (λ (x : Listed). keeps_raw (length s) x.raw) e ∙ attributes_keeps most w s h specs f
 
-  pub lent_skip_keeps : (specs : List ℕ) (f : Found) (r : Outcome) → view_skipped r v ≡ raw_skip most w s specs f → keeps_raw (length s) v ≡ true
+  pub lent_skip_keeps : (specs : List ℕ) (f : Found) (r : Result (Unit {0}) Error) → view_skipped r v ≡ raw_skip most w s specs f → keeps_raw (length s) v ≡ true
   lent_skip_keeps specs f r e = ap (λ (x : Moved (Unit {0})). keeps_raw (length s) x.raw) e ∙ skip_keeps most w s h specs f
 
 -- one call by its number

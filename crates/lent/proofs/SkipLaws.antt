@@ -5,23 +5,22 @@ use mathlib.Core.List.{List, [], map}
 use mathlib.Core.Option.{Option, none, some}
 use Prim.Native.Nat.{ℕ, ◌+◌, ◌^◌, ◌<◌}
 use native.Mathlib.Omega.{arith}
+use Rattle.std.specs.Prelude.{Result, Ok, Err, Some, None}
+use Rattle.std.specs.Prelude as code
+use Rattle.reader.specs.Views.{view}
+use Rattle.reader.specs.declared.error.Error.{Error}
 use Rattle.reader.specs.Answer.{Answer, got, refused}
 use Rattle.abbrev.specs.Lookup.{Found}
-use Rattle.abbrev.specs.Views.{found_of}
+use Rattle.abbrev.specs.Views.{found_of, view_lookup}
 use Rattle.abbrev.specs.declared.lookup.Abbreviation.{Abbreviation}
 use Rattle.attribute.specs.Attributes.{pad}
 use Rattle.attribute.specs.Views.{view_attribute}
 use Rattle.entries.specs.Entry.{Entry, null_entry}
 use Rattle.entries.specs.Raw.{moved_to, entry_here, Moved, Taken, Listed, refused_entry, raw_abbreviation, raw_entry, raw_attributes, raw_skip}
-use Rattle.entries.specs.Views.{view_coded, view_entry, view_outcome, view_said, view_raw_attributes, view_raw_skipped}
-use Rattle.entries.specs.declared.raw.Coded.{Coded}
-use Rattle.entries.specs.declared.raw.Coded.TheVariants as coded
+use Rattle.entries.specs.Views.{view_entry, view_raw_attributes, view_raw_skipped}
 use Rattle.entries.specs.declared.raw.EntriesRaw.{EntriesRaw}
-use Rattle.entries.specs.declared.raw.Outcome.{Outcome}
-use Rattle.entries.specs.declared.raw.Outcome.TheVariants as outcome
 use Rattle.entries.specs.declared.raw.RawAttributes.{RawAttributes}
-use Rattle.entries.specs.declared.raw.RawSkipped.{RawSkipped}
-use Rattle.entries.specs.declared.raw.Said.TheVariants as said
+use Rattle.entries.specs.declared.raw.Moved as declared_moved
 use Rattle.entries.proofs.RawLaws.{same_taken}
 use Rattle.entries.proofs.SkipLaws.{raw_read_skip, code_kept, code_back, code_refuses, code_null, code_values, code_values_refuse, InTwo, entry_read_skip, null_in_one}
 use Rattle.lent.specs.Calls.{skipped_call}
@@ -35,35 +34,35 @@ got_refused e = let z : ◌≡◌ {A = ℕ} 0 1 = cc in absurd (omega arith)
 
 -- ---- what the calls hand back
 
-is_done : (k : Outcome) → view_outcome k ≡ got tt → k ≡ outcome.Done
-is_done outcome.Done e = refl
-is_done (outcome.Refused x) e = got_refused (sym e)
+is_done : (k : Result (Unit {0}) Error) → view k ≡ got tt → k ≡ Ok tt
+is_done (Ok u) e = refl
+is_done (Err x) e = got_refused (sym e)
 
-is_null_lem : (c : Coded) → view_coded c ≡ got none → c ≡ coded.Null
-is_null_lem (coded.Found a) e = let z : ◌≡◌ {A = ℕ} 0 1 = cc in absurd (omega arith)
-is_null_lem coded.Null e = refl
-is_null_lem (coded.Refused x) e = got_refused (sym e)
+is_null_lem : (c : Result (code.Option Abbreviation) Error) → view_lookup c ≡ got none → c ≡ Ok None
+is_null_lem (Ok (Some a)) e = let z : ◌≡◌ {A = ℕ} 0 1 = cc in absurd (omega arith)
+is_null_lem (Ok None) e = refl
+is_null_lem (Err x) e = got_refused (sym e)
 
 module _ (most : ℕ) (w : EntriesRaw) (s specs : List ℕ) (f : Found) where
   -- where read_attributes succeeds, skip_attributes on a state like the one that it was lent succeeds and leaves the same state
-  pub lent_read_skip : (r : ReadAttributes) (k : Outcome) {u v : EntriesRaw} → view_read_attributes r u ≡ raw_attributes most w s specs f → view_skipped k v ≡ raw_skip most w s specs f → r.answer ≡ outcome.Done → (k ≡ outcome.Done) × (v ≡ u)
+  pub lent_read_skip : (r : ReadAttributes) (k : Result (Unit {0}) Error) {u v : EntriesRaw} → view_read_attributes r u ≡ raw_attributes most w s specs f → view_skipped k v ≡ raw_skip most w s specs f → r.answer ≡ Ok tt → (k ≡ Ok tt) × (v ≡ u)
   lent_read_skip r k a b e =
-      let z = raw_read_skip most w s specs f (sym (ap (λ (x : Listed). x.answer) a) ∙ ap view_outcome e) in
+      let z = raw_read_skip most w s specs f (sym (ap (λ (x : Listed). x.answer) a) ∙ ap view e) in
       (is_done k (ap (λ (x : Moved (Unit {0})). x.answer) b ∙ z.done), ap (λ (x : Moved (Unit {0})). x.raw) b ∙ z.same ∙ sym (ap (λ (x : Listed). x.raw) a))
 
   -- by value
-  pub value_read_skip : (r : RawAttributes) (k : RawSkipped) → view_raw_attributes r ≡ raw_attributes most w s specs f → view_raw_skipped k ≡ raw_skip most w s specs f → r.answer ≡ outcome.Done → (k.answer ≡ outcome.Done) × (k.raw ≡ r.raw)
+  pub value_read_skip : (r : RawAttributes) (k : declared_moved.Moved (Unit {0})) → view_raw_attributes r ≡ raw_attributes most w s specs f → view_raw_skipped k ≡ raw_skip most w s specs f → r.answer ≡ Ok tt → (k.answer ≡ Ok tt) × (k.raw ≡ r.raw)
   value_read_skip r k a b e = lent_read_skip (record { answer = r.answer; attrs = r.attrs }) k.answer a b e
 
 module _ (most : ℕ) (w : EntriesRaw) (s rows specs : List ℕ) where
   -- read_entry gave the entry e and left the state v: read_abbreviation, on a state like the one that it was lent, finds its row and leaves u, and then read_attributes and skip_attributes succeed and leave v
-  pub record LentInTwo (e : Entry) (v : EntriesRaw) (c : Coded) (u : EntriesRaw) : Type 0 where
+  pub record LentInTwo (e : Entry) (v : EntriesRaw) (c : Result (code.Option Abbreviation) Error) (u : EntriesRaw) : Type 0 where
     pub found : Abbreviation
-    pub code : c ≡ coded.Found found
-    pub listed : (r : ReadAttributes) {x : EntriesRaw} → view_read_attributes r x ≡ raw_attributes most u s specs (found_of found) → (r.answer ≡ outcome.Done) × (x ≡ v) × (e ≡ entry_here w (found_of found) (map view_attribute r.attrs))
-    pub skipped : (k : Outcome) {x : EntriesRaw} → view_skipped k x ≡ raw_skip most u s specs (found_of found) → (k ≡ outcome.Done) × (x ≡ v)
+    pub code : c ≡ Ok (Some found)
+    pub listed : (r : ReadAttributes) {x : EntriesRaw} → view_read_attributes r x ≡ raw_attributes most u s specs (found_of found) → (r.answer ≡ Ok tt) × (x ≡ v) × (e ≡ entry_here w (found_of found) (map view_attribute r.attrs))
+    pub skipped : (k : Result (Unit {0}) Error) {x : EntriesRaw} → view_skipped k x ≡ raw_skip most u s specs (found_of found) → (k ≡ Ok tt) × (x ≡ v)
 
-  module _ (r : ReadEntry) (c : Coded) {v u : EntriesRaw} (a : view_read_entry r v ≡ raw_entry most w s rows specs) (b : view_read_abbreviation c u ≡ raw_abbreviation most w s rows specs) where
+  module _ (r : ReadEntry) (c : Result (code.Option Abbreviation) Error) {v u : EntriesRaw} (a : view_read_entry r v ≡ raw_entry most w s rows specs) (b : view_read_abbreviation c u ≡ raw_abbreviation most w s rows specs) where
     left : (raw_entry most w s rows specs).raw ≡ v
     left = sym (ap (λ (x : Taken). x.raw) a)
 
@@ -77,7 +76,7 @@ module _ (most : ℕ) (w : EntriesRaw) (s rows specs : List ℕ) where
       same_skip : raw_skip most u s specs (found_of d) ≡ raw_skip most (raw_abbreviation most w s rows specs).raw s specs z.found
       same_skip = ap (λ (x : EntriesRaw). raw_skip most x s specs (found_of d)) behind ∙ ap (raw_skip most (raw_abbreviation most w s rows specs).raw s specs) j
 
-      in_two : c ≡ coded.Found d → LentInTwo (view_entry r.entry) v c u
+      in_two : c ≡ Ok (Some d) → LentInTwo (view_entry r.entry) v c u
       in_two q =
           record {
             found = d;
@@ -90,26 +89,26 @@ module _ (most : ℕ) (w : EntriesRaw) (s rows specs : List ℕ) where
                 (is_done k (ap (λ (x : Moved (Unit {0})). x.answer) m ∙ z.skipped_done), ap (λ (x : Moved (Unit {0})). x.raw) m ∙ z.skipped_raw ∙ left);
           }
 
-    pub lent_entry_skip : r.answer ≡ said.Entry → LentInTwo (view_entry r.entry) v c u
+    pub lent_entry_skip : r.answer ≡ Ok true → LentInTwo (view_entry r.entry) v c u
     lent_entry_skip h =
-        let z = entry_read_skip most w s rows specs (sym (ap (λ (x : Taken). x.answer) a) ∙ ap view_said h) in
+        let z = entry_read_skip most w s rows specs (sym (ap (λ (x : Taken). x.answer) a) ∙ ap view h) in
         go z c refl (ap (λ (x : Moved (Option Found)). x.answer) b ∙ z.code)
       where
-        go : (z : InTwo most w s rows specs) (x : Coded) → c ≡ x → view_coded c ≡ got (some z.found) → LentInTwo (view_entry r.entry) v c u
-        go z (coded.Found d) q e =
-            let y : got (some (found_of d)) ≡ got (some z.found) = sym (ap view_coded q) ∙ e in
+        go : (z : InTwo most w s rows specs) (x : Result (code.Option Abbreviation) Error) → c ≡ x → view_lookup c ≡ got (some z.found) → LentInTwo (view_entry r.entry) v c u
+        go z (Ok (Some d)) q e =
+            let y : got (some (found_of d)) ≡ got (some z.found) = sym (ap view_lookup q) ∙ e in
             let j : found_of d ≡ z.found = cc in
             in_two z d j q
-        go z coded.Null q e =
-            let y : got none ≡ got (some z.found) = sym (ap view_coded q) ∙ e in
+        go z (Ok None) q e =
+            let y : got none ≡ got (some z.found) = sym (ap view_lookup q) ∙ e in
             let j : ◌≡◌ {A = ℕ} 0 1 = cc in
             absurd (omega arith)
-        go z (coded.Refused x) q e = got_refused (sym (sym (ap view_coded q) ∙ e))
+        go z (Err x) q e = got_refused (sym (sym (ap view_lookup q) ∙ e))
 
     -- a null: read_abbreviation leaves the same state
-    pub lent_null : r.answer ≡ said.Null → (c ≡ coded.Null) × (u ≡ v)
+    pub lent_null : r.answer ≡ Ok false → (c ≡ Ok None) × (u ≡ v)
     lent_null h =
-        let z = null_in_one most w s rows specs (sym (ap (λ (x : Taken). x.answer) a) ∙ ap view_said h) in
+        let z = null_in_one most w s rows specs (sym (ap (λ (x : Taken). x.answer) a) ∙ ap view h) in
         (is_null_lem c (ap (λ (x : Moved (Option Found)). x.answer) b ∙ z.0), behind ∙ z.1 ∙ left)
 
   -- ---- read_entry as two calls

@@ -1,4 +1,5 @@
 -- The definitions that the contracts of `lent` cite.
 pub mod Views
 pub mod Calls
+pub mod Kinds
 pub mod Steps

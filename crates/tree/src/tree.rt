@@ -4,20 +4,21 @@
 ghost use Rattle.std.specs.Prelude.{true, ◌&&◌, ◌≡◌, length};
 ghost use Rattle.reader.specs.Answer.{got};
 ghost use Rattle.reader.specs.Errors.{number_of};
+ghost use Rattle.reader.specs.Views.{view};
 ghost use Rattle.abbrev.specs.Table.{entry_limit};
 ghost use Rattle.unit.specs.Header.{size_of_header};
 ghost use Rattle.entries.specs.Cursor.{keeps_cursor, new_cursor, or_no_cursor};
 ghost use Rattle.entries.specs.Open.{cursor_from};
 ghost use Rattle.entries.specs.Read.{same_depth};
 ghost use Rattle.entries.specs.Entry.{is_null};
-ghost use Rattle.entries.specs.Views.{view_entry, view_cursor, view_next};
+ghost use Rattle.entries.specs.Views.{view_entry, view_cursor};
 ghost use Rattle.tree.specs.Tree.{unrooted, tree_over, refuses, restarted, in_tree, child_of, level_of, root_of, next_of};
 ghost use Rattle.tree.specs.Views.{view_tree, view_opened_tree, view_tree_next, view_level, level_for};
 
-use entries::cursor::{EntriesCursor, Next};
-use entries::entry::{Entry, same_depth};
+use entries::cursor::{CursorNext, EntriesCursor};
+use entries::entry::{Entry, null_at};
 use entries::open::entries_at_offset;
-use entries::raw::{EntriesRaw, Outcome, Said};
+use entries::raw::EntriesRaw;
 use reader::endianity::RunTimeEndian;
 use reader::error::Error;
 use unit::header::UnitHeader;
@@ -31,23 +32,22 @@ pub struct EntriesTree {
 // After a refusal the tree is one that every call that reads refuses.
 #[derive(Clone, Copy)]
 pub struct OpenedTree {
-    pub answer: Outcome,
+    pub answer: Result<(), Error>,
     pub tree: EntriesTree,
 }
 
-// What a call says; the entry that was reached is held in the tree beside it.
+// Whether an entry was reached, which the tree beside it holds.
 #[derive(Clone, Copy)]
 pub struct TreeNext {
-    pub answer: Next,
+    pub answer: Result<bool, Error>,
     pub tree: EntriesTree,
 }
 
 // Where a level lies from what is held.
-#[derive(Clone, Copy)]
+#[derive(Clone, Copy, Debug, PartialEq, Eq)]
 pub enum Level {
     Deeper,
     AtOrAbove,
-    Outside,
 }
 
 // gimli's `entries_tree` from an offset on. `unit` has the unit's own bytes.
@@ -60,21 +60,20 @@ pub fn entries_tree(
     ensures { view_opened_tree result ≡ tree_over (or_no_cursor entry_limit.most endian (cursor_from header unit.now entry_limit.most offset endian)) }
 {
     let opened = entries_at_offset(header, unit, offset, endian);
-    let answer = opened.answer;
-    let cursor = opened.cursor;
-    let tree = EntriesTree {
-        rooted: false,
-        cursor,
-    };
-    OpenedTree { answer, tree }
+    OpenedTree {
+        answer: opened.answer,
+        tree: EntriesTree {
+            rooted: false,
+            cursor: opened.cursor,
+        },
+    }
 }
 
 // gimli's `entries_tree` from the root on.
 pub fn root_entries_tree(header: UnitHeader, unit: &[u8], endian: RunTimeEndian) -> OpenedTree
     ensures { view_opened_tree result ≡ tree_over (or_no_cursor entry_limit.most endian (cursor_from header unit.now entry_limit.most (size_of_header header) endian)) }
 {
-    let offset = header.root_offset();
-    entries_tree(header, unit, offset, endian)
+    entries_tree(header, unit, header.root_offset(), endian)
 }
 
 // Refused: the tree as it is given.
@@ -82,7 +81,7 @@ fn refuse(tree: EntriesTree, error: Error) -> TreeNext
     ensures { view_tree_next result ≡ refuses (number_of error) (view_tree tree) }
 {
     TreeNext {
-        answer: Next::Refused(error),
+        answer: Err(error),
         tree,
     }
 }
@@ -91,14 +90,10 @@ fn refuse(tree: EntriesTree, error: Error) -> TreeNext
 fn restart(raw: EntriesRaw) -> EntriesRaw
     ensures { result ≡ restarted raw }
 {
-    let encoding = raw.encoding;
-    let endian = raw.endian;
     EntriesRaw {
-        start: raw.start,
         position: 0,
         depth: 0,
-        encoding,
-        endian,
+        ..raw
     }
 }
 
@@ -106,14 +101,12 @@ fn restart(raw: EntriesRaw) -> EntriesRaw
 fn found_root(raw: EntriesRaw, entry: Entry) -> TreeNext
     ensures { view_tree_next result ≡ record { answer = got true; tree = record { rooted = true; cursor = record { input = raw; entry = view_entry entry } } } }
 {
-    let cursor = EntriesCursor { input: raw, entry };
-    let tree = EntriesTree {
-        rooted: true,
-        cursor,
-    };
     TreeNext {
-        answer: Next::Held,
-        tree,
+        answer: Ok(true),
+        tree: EntriesTree {
+            rooted: true,
+            cursor: EntriesCursor { input: raw, entry },
+        },
     }
 }
 
@@ -121,140 +114,115 @@ fn found_root(raw: EntriesRaw, entry: Entry) -> TreeNext
 fn fail_root(raw: EntriesRaw, error: Error) -> TreeNext
     ensures { view_tree_next result ≡ refuses (number_of error) (unrooted (new_cursor entry_limit.most raw)) }
 {
-    let entry = Entry::null();
-    let cursor = EntriesCursor { input: raw, entry };
     let tree = EntriesTree {
         rooted: false,
-        cursor,
+        cursor: EntriesCursor {
+            input: raw,
+            entry: null_at(0, 0),
+        },
     };
     refuse(tree, error)
 }
 
 // The tree after a call on its cursor.
-fn within(answer: Next, cursor: EntriesCursor) -> TreeNext
-    ensures { view_tree_next result ≡ in_tree (record { answer = view_next answer; cursor = view_cursor cursor }) }
+fn within(next: CursorNext) -> TreeNext
+    ensures { view_tree_next result ≡ in_tree (record { answer = view next.answer; cursor = view_cursor next.cursor }) }
 {
-    let tree = EntriesTree {
-        rooted: true,
-        cursor,
-    };
-    TreeNext { answer, tree }
+    TreeNext {
+        answer: next.answer,
+        tree: EntriesTree {
+            rooted: true,
+            cursor: next.cursor,
+        },
+    }
 }
 
 // Where a level lies from a depth.
-fn place(level: i64, depth: i64) -> Level
+fn place(level: i64, depth: i64) -> Option<Level>
     ensures { view_level result ≡ level_for level depth }
 {
-    if 1 <= level {
-        if level <= depth {
-            return Level::AtOrAbove;
-        }
-        if level - 1 <= depth {
-            return Level::Deeper;
-        }
-        return Level::Outside;
+    if level < 1 {
+        return None;
     }
-    Level::Outside
+    if level <= depth {
+        return Some(Level::AtOrAbove);
+    }
+    if level - 1 <= depth {
+        return Some(Level::Deeper);
+    }
+    None
 }
 
 // One level deeper than what is held.
+#[tactic(auto, unfolding(crate::specs::Tree::child_of))]
 fn child(tree: EntriesTree, bytes: &[u8], rows: &[u64], specs: &[u64]) -> TreeNext
     requires { keeps_cursor entry_limit.most (length bytes.now) (view_tree tree).cursor ≡ true }
     ensures { view_tree_next result ≡ child_of entry_limit.most bytes.now rows.now specs.now (view_tree tree) }
 {
-    let cursor = tree.cursor;
-    let entry = cursor.entry;
-    if entry.has_children {
-        let next = cursor.next_child(bytes, rows, specs);
-        let answer = next.answer;
-        let after = next.cursor;
-        return within(answer, after);
+    if tree.cursor.entry.has_children {
+        return within(tree.cursor.next_child(bytes, rows, specs));
     }
     TreeNext {
-        answer: Next::NoMore,
+        answer: Ok(false),
         tree,
     }
 }
 
 // A level at or above what is held.
+#[tactic(auto, unfolding(crate::specs::Tree::level_of))]
 fn next_at(tree: EntriesTree, bytes: &[u8], rows: &[u64], specs: &[u64], depth: i64) -> TreeNext
     requires { keeps_cursor entry_limit.most (length bytes.now) (view_tree tree).cursor ≡ true }
     ensures { view_tree_next result ≡ level_of entry_limit.most bytes.now rows.now specs.now depth (view_tree tree) }
 {
-    let cursor = tree.cursor;
-    if closes(cursor, depth) {
+    if closes(tree.cursor, depth) {
         return TreeNext {
-            answer: Next::NoMore,
+            answer: Ok(false),
             tree,
         };
     }
-    let next = cursor.next_at_depth(bytes, rows, specs, depth);
-    let answer = next.answer;
-    let after = next.cursor;
-    within(answer, after)
+    within(tree.cursor.next_at_depth(bytes, rows, specs, depth))
 }
 
 // Whether what is held is the null that closed a level.
 fn closes(cursor: EntriesCursor, depth: i64) -> bool
     ensures { result ≡ is_null (view_cursor cursor).entry && same_depth (view_cursor cursor).entry.depth depth }
 {
-    let entry = cursor.entry;
-    if entry.is_null() {
-        return same_depth(entry.depth, depth);
-    }
-    false
+    cursor.entry.is_null() && cursor.entry.depth == depth
 }
 
 impl EntriesTree {
     // gimli's `root`.
+    #[tactic(auto, unfolding(crate::specs::Tree::root_of))]
     pub fn root(self, bytes: &[u8], rows: &[u64], specs: &[u64]) -> TreeNext
         ensures { view_tree_next result ≡ root_of entry_limit.most bytes.now rows.now specs.now (view_tree self) }
     {
-        let cursor = self.cursor;
-        if cursor.keeps_sizes(bytes.len()) {
-            let input = cursor.input;
-            let start = restart(input);
-            let read = start.read_entry(bytes, rows, specs);
-            let answer = read.answer;
-            let entry = read.entry;
-            let after = read.raw;
-            match answer {
-                Said::Entry => {
-                    return found_root(after, entry);
-                }
-                Said::Null => {
-                    return fail_root(start, Error::NoEntryAtGivenOffset);
-                }
-                Said::Refused(e) => {
-                    return fail_root(start, e);
-                }
-            }
+        if !self.cursor.keeps_sizes(bytes.len()) {
+            return refuse(self, Error::SizeLimit);
         }
-        refuse(self, Error::SizeLimit)
+        let start = restart(self.cursor.input);
+        let read = start.read_entry(bytes, rows, specs);
+        match read.answer {
+            Ok(true) => found_root(read.raw, read.entry),
+            Ok(false) => fail_root(start, Error::NoEntryAtGivenOffset),
+            Err(e) => fail_root(start, e),
+        }
     }
 
     // gimli's `next` by the number of a level: an entry, "no more", or a refusal.
+    #[tactic(auto, unfolding(crate::specs::Tree::next_of))]
     pub fn next(self, bytes: &[u8], rows: &[u64], specs: &[u64], level: i64) -> TreeNext
         ensures { view_tree_next result ≡ next_of entry_limit.most bytes.now rows.now specs.now level (view_tree self) }
     {
-        let cursor = self.cursor;
-        let entry = cursor.entry;
-        if cursor.keeps_sizes(bytes.len()) {
-            if self.rooted {
-                match place(level, entry.depth) {
-                    Level::Deeper => {
-                        return child(self, bytes, rows, specs);
-                    }
-                    Level::AtOrAbove => {
-                        return next_at(self, bytes, rows, specs, level);
-                    }
-                    Level::Outside => {
-                        return refuse(self, Error::InvalidTreeLevel);
-                    }
-                }
-            }
+        if !self.cursor.keeps_sizes(bytes.len()) {
+            return refuse(self, Error::SizeLimit);
+        }
+        if !self.rooted {
             return refuse(self, Error::InvalidTreeLevel);
         }
-        refuse(self, Error::SizeLimit)
+        match place(level, self.cursor.entry.depth) {
+            Some(Level::Deeper) => child(self, bytes, rows, specs),
+            Some(Level::AtOrAbove) => next_at(self, bytes, rows, specs, level),
+            None => refuse(self, Error::InvalidTreeLevel),
+        }
     }
 }
