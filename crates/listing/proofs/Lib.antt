@@ -1,6 +1,6 @@
 -- Laws that several proofs cite.
 pub mod TextLaws
-pub mod PieceLaws
+pub mod LinesLaws
 pub mod ListLaws
 pub mod UnitLaws
 pub mod PartLaws

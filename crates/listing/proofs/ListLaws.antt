@@ -11,16 +11,17 @@ use lib.IntN.{ℤ, pos, negsuc, nat_abs}
 use lib.Signed.{mag}
 use lib.ListN.{length, get_or, take, drop, length-append}
 use lib.Seq.{take_all}
+use Rattle.std.specs.declared.ops.ControlFlow.TheVariants.{Continue, Break}
 use Rattle.reader.specs.Answer.{Answer, got, refused, if_some}
-use Rattle.reader.specs.Twos.{word}
 use Rattle.reader.proofs.Signs.{twos_word}
 use Rattle.entries.specs.Cursor.{item_next}
 use Rattle.entries.specs.Flat.{Item, place_at, Stop, Reading, nothing}
-use Rattle.entries.specs.Pass.{items_words, PassedItems, first_of, passed_items}
+use Rattle.entries.specs.Pass.{item_words, items_words, PassedItems, first_of, passed_items}
 use Rattle.entries.specs.Raw.{moved_to, source_of}
 use Rattle.entries.specs.Read.{after_entry}
 use Rattle.entries.specs.Steps.{KeptRaw}
-use Rattle.entries.specs.Views.{view_outcome, PassedAs}
+use Rattle.reader.specs.Views.{view}
+use Rattle.entries.specs.Views.{PassedAs}
 use Rattle.entries.specs.declared.flat.PassedEntries.{PassedEntries}
 use Rattle.entries.specs.declared.raw.EntriesRaw.{EntriesRaw}
 use Rattle.entries.proofs.CallsLaws.{passed_reading}
@@ -28,12 +29,15 @@ use Rattle.entries.proofs.FlatLaws.{Stands}
 use Rattle.entries.proofs.RawLaws.{raw_keeps}
 use Rattle.entries.proofs.RunLaws.{behind, next_kept, reading, reading_none, reading_item, reading_refused, words_length}
 use Rattle.entries.proofs.SeekLaws.{stands}
-use Rattle.listing.specs.Listing.{Placed, place_in, item_placed, items_then, read_lines, item_lines}
-use Rattle.listing.specs.Written.{Part, part_of, adds, Held, Added, Written, refusal, words_line, words_lines, Items}
-use Rattle.listing.specs.declared.list.Wrote.{Wrote}
-use Rattle.listing.specs.declared.place.ListingPlace.{ListingPlace}
-use Rattle.listing.specs.declared.piece.Piece.{Piece}
-use Rattle.listing.proofs.PieceLaws.{added_in, written_in, adds_full, adds_append, full_or}
+use Rattle.listing.specs.Listing.{Placed, place_in, put, item_placed, items_then, read_lines, item_lines}
+use Rattle.listing.specs.Text.{refused_line}
+use Rattle.listing.specs.Written.{words_line, Items, Written}
+use Rattle.std.specs.List.{All}
+use Rattle.std.specs.Simd.{first_chunks}
+use Rattle.std.proofs.lemmas.List.Elements.{All-nil, All-cons, All-head, All-tail, All-take, All-map, All-weaker}
+use Rattle.std.proofs.Math.Nat.{le-div_iff_mul-le}
+use Rattle.listing.specs.declared.lines.Lines.{Lines}
+use Rattle.listing.proofs.LinesLaws.{Going, going_further, going_broken}
 
 -- ---- sizes
 
@@ -50,37 +54,23 @@ kept_offset count w k = omega (arith, k.inside, k.short)
 
 -- ---- items
 
--- what holds of each of some items
-abbrev pub All : (Item → Type 0) → List Item → Type 0
-All P [] = Unit {0}
-All P (i ∷ l) = P i × All P l
-
-all_take : (P : Item → Type 0) (m : ℕ) (l : List Item) → All P l → All P (take m l)
-all_take P zero l h = tt
-all_take P (suc m) [] h = tt
-all_take P (suc m) (i ∷ l) h = (h.0, all_take P m l h.1)
-
 -- its words give its line back
 pub record Fair (i : Item) : Type 0 where
   pub small : i.value.tag ≤ 65535
   pub near : mag i.value.depth < 2 ^ 63
 
-words_line_lem : (unit : ℕ) (i : Item) → Fair i → words_line unit i.value.offset (word 64 i.value.depth) i.value.tag i.value.count ≡ item_placed unit i
-words_line_lem unit i f = rw (twos_word 64 i.value.depth (omega arith) f.near)
+line_back : (unit : ℕ) (i : Item) → Fair i → words_line unit (item_words i) ≡ item_placed unit i
+line_back unit i f = rw (twos_word 64 i.value.depth (omega arith) f.near)
 
--- the lines of items one after another
-pub words_lines_lem : (unit : ℕ) (l : List Item) (z : List ℕ) → All Fair l → words_lines unit (length l) (items_words l ++ z) ≡ map (item_placed unit) l
-words_lines_lem unit [] z h = refl
-words_lines_lem unit (i ∷ l) z h =
-    ap (λ (x : Placed). x ∷ words_lines unit (length l) (items_words l ++ z)) (words_line_lem unit i h.0)
-    ∙ ap (λ (x : List Placed). item_placed unit i ∷ x) (words_lines_lem unit l z h.1)
+lines_back : (unit : ℕ) (l : List Item) → All Fair l → map (words_line unit) (map item_words l) ≡ map (item_placed unit) l
+lines_back unit [] h = refl
+lines_back unit (i ∷ l) h = rw (line_back unit i (All-head Fair i l h), lines_back unit l (All-tail Fair i l h))
 
-words_small : (l : List Item) (z : List ℕ) → All Fair l → (i : ℕ) → i * 4 + 4 ≤ length l * 4 → get_or (items_words l ++ z) (i * 4 + 2) 0 ≤ 65535
-words_small [] z h i k = absurd (omega arith)
-words_small (x ∷ l) z h zero k = h.0.small
-words_small (x ∷ l) z h (suc i) k =
-    let e : suc i * 4 + 2 ≡ suc (suc (suc (suc (i * 4 + 2)))) = omega arith in
-    rw e (words_small l z h.1 i (omega arith))
+-- the words of items, four by four
+chunks_are : (k : ℕ) (l : List Item) (z : List ℕ) → length l ≤ k → take (length l) (first_chunks 4 k (items_words l ++ z)) ≡ map item_words l
+chunks_are k [] z h = refl
+chunks_are zero (i ∷ l) z h = absurd (omega arith)
+chunks_are (suc k) (i ∷ l) z h = ap (λ (x : List (List ℕ)). item_words i ∷ x) (chunks_are k l z (omega arith))
 
 items_then_lem : (unit : ℕ) (l : List Item) (rest : List Placed) → items_then unit l rest ≡ map (item_placed unit) l ++ rest
 items_then_lem unit [] rest = refl
@@ -119,10 +109,10 @@ module _ (most : ℕ) (s rows specs : List ℕ) where
   -- what holds of each item read from a state that keeps the sizes holds of all of a reading
   reading_all : (P : Item → Type 0) → ((w : EntriesRaw) → KeptRaw (length s) w → (i : Item) → item_next most s rows specs w ≡ got i → P i)
       → (n : ℕ) (w : EntriesRaw) → KeptRaw (length s) w → length s ≤ n + w.position → All P (reading most s rows specs w).items
-  reading_all P f zero w k l = starts w (λ r. All P r.items) (λ _. tt) (λ n h. tt) (λ i h e. absurd (omega arith))
+  reading_all P f zero w k l = starts w (λ r. All P r.items) (λ _. All-nil P) (λ n h. All-nil P) (λ i h e. absurd (omega arith))
   reading_all P f (suc n) w k l =
-      starts w (λ r. All P r.items) (λ _. tt) (λ n h. tt)
-      (λ i h e. let z = after_item w i k e in (f w k i e, reading_all P f n (moved_to w i.next (after_entry i.value)) z.0 (omega (arith, z.1))))
+      starts w (λ r. All P r.items) (λ _. All-nil P) (λ n h. All-nil P)
+      (λ i h e. let z = after_item w i k e in All-cons P i _ (f w k i e) (reading_all P f n (moved_to w i.next (after_entry i.value)) z.0 (omega (arith, z.1))))
 
   -- items go on
   reading_up : (n : ℕ) (w : EntriesRaw) → KeptRaw (length s) w → length s ≤ n + w.position → (m : ℕ) → w.position ≤ place_at w.position (reading most s rows specs w).items m
@@ -159,7 +149,7 @@ module _ (most : ℕ) (s rows specs : List ℕ) where
     pub pass_fair : All Fair X.items
     pass_fair =
         subst (λ (x : PassedItems). All Fair x.items) (sym first_is)
-        (all_take Fair m (reading most s rows specs w).items
+        (All-take Fair m (reading most s rows specs w).items
         (reading_all Fair
         (λ v q i e.
         let z : Stands most (source_of v) s rows specs v.position v.depth i = rw e at (stands most s rows specs v) in
@@ -217,87 +207,73 @@ module _ (most : ℕ) (s rows specs : List ℕ) where
 
 -- ---- the loop over items
 
-module _ (most unit : ℕ) (s rows specs : List ℕ) where
-  abbrev lines_from : EntriesRaw → List Placed → List Placed
-  lines_from w rest = item_lines most unit w s rows specs rest
+-- no item is left
+pub lines_ended : (most unit : ℕ) (s rows specs : List ℕ) (w : EntriesRaw) → length s ≤ w.position → (rest : List Placed) → item_lines most unit w s rows specs rest ≡ rest
+unfolding item_lines
+lines_ended most unit s rows specs w h rest = ap (λ (x : Reading). read_lines unit w.start x rest) (reading_none most s rows specs w h)
 
-  -- lines that were added, and those still to come
-  pub record Going (out₀ : List ℕ) (p : Piece) (raw : EntriesRaw) (out : List ℕ) (here : EntriesRaw) (q : Piece) : Type 0 where
-    pub kept : KeptRaw (length s) here
-    pub same : length out ≡ length out₀
-    pub held : Held (length out) q
-    pub is : (rest : List Placed) → adds (length out₀) (part_of p out₀) (lines_from raw rest) ≡ adds (length out₀) (part_of q out) (lines_from here rest)
+module _ (most : ℕ) (s rows specs : List ℕ) {w : EntriesRaw} {before after : List ℕ} {r : PassedEntries} (k : KeptRaw (length s) w) (z : PassedAs (passed_items most (length before / 4) w s rows specs) before after r) where
+  abbrev m : ℕ
+  m = length before / 4
 
-  pub going_begun : (out : List ℕ) (p : Piece) (raw : EntriesRaw) → KeptRaw (length s) raw → Held (length out) p → Going out p raw out raw p
-  going_begun out p raw k h = record { kept = k; same = refl; held = h; is = λ rest. refl }
+  abbrev Y : PassedItems
+  Y = passed_items most m w s rows specs
 
-  -- the words that a pass leaves
-  pub passed_items_lem : {w : EntriesRaw} {before after : List ℕ} {r : PassedEntries} → KeptRaw (length s) w → PassedAs (passed_items most (length before / 4) w s rows specs) before after r → Items r.count after
-  passed_items_lem {w} {before} {after} {r} k z =
-      let m = length before / 4 in
-      let l = (X most s rows specs w k m).items in
-      let f = pass_fair most s rows specs w k m in
-      let n = words_length l in
-      let e = ap length z.words_are ∙ length-append (items_words l) (drop (length l * 4) before) in
-      record {
-        there = omega (arith, e, n, z.count_is);
-        small = λ i h. subst (λ (y : List ℕ). get_or y (i * 4 + 2) 0 ≤ 65535) (sym z.words_are) (words_small l (drop (length l * 4) before) f i (omega (arith, h, z.count_is)));
-      }
+  -- the words of the items that were passed
+  abbrev pub passed : List (List ℕ)
+  passed = take r.count (first_chunks 4 (length after / 4) after)
 
-  module _ {out₀ : List ℕ} {p : Piece} {raw : EntriesRaw} {out : List ℕ} {here : EntriesRaw} {q : Piece} (t : Going out₀ p raw out here q)
-      {before after : List ℕ} {r : PassedEntries} (z : PassedAs (passed_items most (length before / 4) here s rows specs) before after r) {out' : List ℕ} {q' : Piece} (l : length out' ≡ length out)
-      (d : Added out out' q (words_lines unit r.count after) q') where
-    abbrev m : ℕ
-    m = length before / 4
+  fair : All Fair Y.items
+  fair = pass_fair most s rows specs w k m
 
-    abbrev Y : PassedItems
-    Y = passed_items most m here s rows specs
+  pub passed_few : r.count ≤ length after / 4
+  passed_few =
+      (le-div_iff_mul-le {k = 4} {x = r.count} {y = length after} (omega arith)).1
+      (omega (arith, ap length z.words_are, length-append (items_words Y.items) (drop (length Y.items * 4) before), words_length Y.items, z.count_is))
+
+  pub passed_is : passed ≡ map item_words Y.items
+  passed_is =
+      ap (λ (n : ℕ). take n (first_chunks 4 (length after / 4) after)) z.count_is ∙ ap (λ (x : List ℕ). take (length Y.items) (first_chunks 4 (length after / 4) x)) z.words_are
+      ∙ chunks_are (length after / 4) Y.items (drop (length Y.items * 4) before) (omega (arith, passed_few, z.count_is))
+
+  pub passed_small : Items passed
+  passed_small =
+      rw passed_is (All-map (λ (v : List ℕ). get_or v 2 0 ≤ 65535) item_words Y.items (All-weaker Fair (λ (i : Item). i.value.tag ≤ 65535) (λ i f. f.small) Y.items fair))
+
+  pub passed_kept : KeptRaw (length s) r.raw
+  passed_kept = rw z.raw_is (pass_kept most s rows specs w k m)
+
+  pub passed_less : {u : Unit {0}} → 0 < m → w.position < length s → view r.answer ≡ got u → w.position < r.raw.position
+  passed_less h a e = rw z.raw_is (pass_further most s rows specs w k m h a (sym z.answer_is ∙ e))
+
+  pub passed_offset : r.raw.start + r.raw.position < 2 ^ 64
+  passed_offset = kept_offset (length s) r.raw passed_kept
+
+  module _ (unit : ℕ) where
+    abbrev lines_from : EntriesRaw → List Placed → List Placed
+    lines_from v = item_lines most unit v s rows specs
 
     -- the lines of the items that were passed, and of what is read behind them
-    together : (rest : List Placed) → adds (length out₀) (part_of p out₀) (lines_from raw rest) ≡ adds (length out₀) (part_of q' out') (lines_from Y.raw rest)
+    pub passed_lines : (rest : List Placed) → lines_from w rest ≡ map (words_line unit) passed ++ lines_from r.raw rest
     unfolding item_lines
-    together rest =
-        let lines : words_lines unit r.count after ≡ map (item_placed unit) Y.items =
-        ap (λ (n : ℕ). words_lines unit n after) z.count_is ∙ ap (words_lines unit (length Y.items)) z.words_are ∙ words_lines_lem unit Y.items (drop (length Y.items * 4) before) (pass_fair most s rows specs here t.kept m) in
-        let split : lines_from here rest ≡ words_lines unit r.count after ++ lines_from Y.raw rest =
-        ap (λ (x : Reading). read_lines unit here.start x rest) (pass_join most s rows specs here t.kept m) ∙ lines_behind unit here.start Y.items (reading most s rows specs Y.raw) rest
-        ∙ ap (λ (x : List Placed). x ++ read_lines unit here.start (reading most s rows specs Y.raw) rest) (sym lines)
-        ∙ ap (λ (n : ℕ). words_lines unit r.count after ++ read_lines unit n (reading most s rows specs Y.raw) rest) (sym (pass_start most s rows specs here t.kept m)) in
-        t.is rest ∙ ap (adds (length out₀) (part_of q out)) split ∙ adds_append (length out₀) (part_of q out) (words_lines unit r.count after) (lines_from Y.raw rest)
-        ∙ ap (λ (y : Part). adds (length out₀) y (lines_from Y.raw rest)) (added_in t.same d)
+    passed_lines rest =
+        let lines : map (words_line unit) passed ≡ map (item_placed unit) Y.items = ap (map (words_line unit)) passed_is ∙ lines_back unit Y.items fair in
+        ap (λ (x : Reading). read_lines unit w.start x rest) (pass_join most s rows specs w k m) ∙ lines_behind unit w.start Y.items (reading most s rows specs Y.raw) rest
+        ∙ ap (λ (x : List Placed). x ++ read_lines unit w.start (reading most s rows specs Y.raw) rest) (sym lines)
+        ∙ ap (λ (n : ℕ). map (words_line unit) passed ++ read_lines unit n (reading most s rows specs Y.raw) rest) (sym (pass_start most s rows specs w k m))
+        ∙ ap (λ (v : EntriesRaw). map (words_line unit) passed ++ read_lines unit v.start (reading most s rows specs v) rest) (sym z.raw_is)
 
-    -- as many items as there was room for
-    pub going_further : Going out₀ p raw out' r.raw q'
-    going_further =
-        subst (λ (y : EntriesRaw). Going out₀ p raw out' y q') (sym z.raw_is)
-        (record { kept = pass_kept most s rows specs here t.kept m; same = l ∙ t.same; held = d.held; is = together })
-
-    pub going_less : {u : Unit {0}} → 0 < length before / 4 → here.position < length s → view_outcome r.answer ≡ got u → here.position < r.raw.position
-    going_less h a e =
-        let f = pass_further most s rows specs here t.kept m h a (sym z.answer_is ∙ e) in
-        omega (arith, f, ap (λ (y : EntriesRaw). y.position) z.raw_is)
-
-    pub going_offset : r.raw.start + r.raw.position < 2 ^ 64
-    going_offset = subst (λ (y : EntriesRaw). y.start + y.position < 2 ^ 64) (sym z.raw_is) (kept_offset (length s) Y.raw (pass_kept most s rows specs here t.kept m))
-
-    -- a refusal is the last line
-    pub going_stopped : {n : ℕ} {a : ListingPlace} {out'' : List ℕ} {v : Wrote} → view_outcome r.answer ≡ refused n → a ≡ place_in unit (r.raw.start + r.raw.position) r.raw.depth
-        → Written out' out'' q' (refusal a n) v → Written out₀ out'' p (lines_from raw) v
+    -- a refusal's line is all that is left
+    pub passed_refused : {n : ℕ} → view r.answer ≡ refused n → (rest : List Placed) → lines_from r.raw rest ≡ put (place_in unit (r.raw.start + r.raw.position) r.raw.depth) (refused_line n) ∷ []
     unfolding item_lines
-    going_stopped {n} {a} {out''} {v} e f w =
-        let g : a ≡ place_in unit (Y.raw.start + Y.raw.position) Y.raw.depth = f ∙ ap (λ (y : EntriesRaw). place_in unit (y.start + y.position) y.depth) z.raw_is in
-        let h : (rest : List Placed) → lines_from Y.raw rest ≡ refusal a n rest =
-        λ rest. ap (λ (x : Reading). read_lines unit Y.raw.start x rest) (pass_stop most s rows specs here t.kept m (sym z.answer_is ∙ e)) ∙ ap (λ (y : ListingPlace). refusal y n rest) (sym g) in
-        record { held = w.held; is = λ rest. together rest ∙ ap (adds (length out₀) (part_of q' out')) (h rest) ∙ written_in (l ∙ t.same) w rest }
+    passed_refused {n} e rest =
+        subst (λ (v : EntriesRaw). lines_from v rest ≡ put (place_in unit (v.start + v.position) v.depth) (refused_line n) ∷ []) (sym z.raw_is)
+        (ap (λ (x : Reading). read_lines unit Y.raw.start x rest) (pass_stop most s rows specs w k m (sym z.answer_is ∙ e)))
 
-  module _ {out₀ : List ℕ} {p : Piece} {raw : EntriesRaw} {out : List ℕ} {here : EntriesRaw} {q : Piece} (t : Going out₀ p raw out here q) where
-    -- a full piece
-    pub going_full : q.full ≡ true → Written out₀ out p (lines_from raw) (record { piece = q; stopped = true })
-    going_full e = record { held = t.held; is = λ rest. t.is rest ∙ adds_full (length out₀) (part_of q out) (lines_from here rest) e }
+    -- added to those before them
+    module _ {a b c : Lines} {f : List Placed → List Placed} {u : Unit {0}} (t : Going a b f (lines_from w)) where
+      pub items_added : Written b c (λ rest. map (words_line unit) passed ++ rest) (Continue u) → Going a c f (lines_from r.raw)
+      items_added = going_further t (lines_from r.raw) passed_lines
 
-    -- no item is left
-    pub going_ended : length s ≤ here.position → Written out₀ out p (lines_from raw) (record { piece = q; stopped = q.full })
-    unfolding item_lines
-    going_ended h =
-        let f : (rest : List Placed) → lines_from here rest ≡ rest = λ rest. ap (λ (x : Reading). read_lines unit here.start x rest) (reading_none most s rows specs here h) in
-        record { held = t.held; is = λ rest. t.is rest ∙ ap (adds (length out₀) (part_of q out)) (f rest) ∙ full_or (length out₀) (part_of q out) rest }
+      pub items_broken : {v : Unit {0}} → Written b c (λ rest. map (words_line unit) passed ++ rest) (Break u) → Written a c f (Break v)
+      items_broken = going_broken t (lines_from r.raw) passed_lines

@@ -82,7 +82,7 @@ module _ (x : Shelf) where
           let b : size + a - size ≡ a = omega arith in
           sym (state_there h s (place_in at (size + a) d) (omega arith) (ap (λ (n : ℕ). state_of n d) (sym b)) (raw_keeps (length s) (state_of a d) k))
 
-      entered : (p : ListingPlace) → unit_entries x h p rest ≡ or_stop p (state_at h s p) (λ w. part_lines x.abbrevs x.rows x.specs h s p w rest)
+      entered : (p : ListingPlace) → unit_entries x h p rest ≡ or_stop p (state_at h s p) (λ w. part_lines x h s p w rest)
       unfolding unit_entries
       entered p = rw f
 
@@ -96,7 +96,7 @@ module _ (x : Shelf) where
         abbrev specs_of : List ℕ
         specs_of = table_specs x.specs t
 
-        part_is : (p : ListingPlace) (w : EntriesRaw) → p.unit ≡ at → 0 < length s → part_lines x.abbrevs x.rows x.specs h s p w rest ≡ lines w
+        part_is : (p : ListingPlace) (w : EntriesRaw) → p.unit ≡ at → 0 < length s → part_lines x h s p w rest ≡ lines w
         unfolding part_lines
         part_is p w q l = rw (ne_eqb (length s) 0 (λ y. omega arith), g, q)
 
@@ -104,8 +104,8 @@ module _ (x : Shelf) where
         from_state : (a : ℕ) (d : ℤ) → KeptRaw (length s) (state_of a d) → a < length s → listing_from x (place_in at (size + a) d) ≡ lines (state_of a d)
         from_state a d k l =
             let p = place_in at (size + a) d in
-            let z : or_stop p (state_at h s p) (λ w. part_lines x.abbrevs x.rows x.specs h s p w rest) ≡ part_lines x.abbrevs x.rows x.specs h s p (state_of a d) rest =
-            ap (λ (r : Answer EntriesRaw). or_stop p r (λ w. part_lines x.abbrevs x.rows x.specs h s p w rest)) (state_back a d k) in
+            let z : or_stop p (state_at h s p) (λ w. part_lines x h s p w rest) ≡ part_lines x h s p (state_of a d) rest =
+            ap (λ (r : Answer EntriesRaw). or_stop p r (λ w. part_lines x h s p w rest)) (state_back a d k) in
             there (size + a) d (omega (arith, size_some h)) ∙ entered p ∙ z ∙ part_is p (state_of a d) refl (omega arith)
 
         items_lead : (n a : ℕ) (d : ℤ) → KeptRaw (length s) (state_of a d) → length s ≤ n + a → Leads (lines (state_of a d))
@@ -125,7 +125,7 @@ module _ (x : Shelf) where
 
       -- the entries from a place on
       part_lead : (p : ListingPlace) (a : ℕ) (d : ℤ) → p ≡ place_in at (size + a) d → KeptRaw (length s) (state_of a d)
-          → listing_from x p ≡ part_lines x.abbrevs x.rows x.specs h s p (state_of a d) rest → Leads (part_lines x.abbrevs x.rows x.specs h s p (state_of a d) rest)
+          → listing_from x p ≡ part_lines x h s p (state_of a d) rest → Leads (part_lines x h s p (state_of a d) rest)
       unfolding part_lines
       part_lead p a d q k l = by (eqb (length s) 0) refl table refl l
         where
@@ -148,19 +148,19 @@ module _ (x : Shelf) where
             from_inner p o ∙ inner_unit x p (ap (answer_at x) u ∙ e) ∙ ap (λ (n : ℕ). unit_entries x h p (unit_lines x (behind_unit x n))) u
 
         by_state : (s : List ℕ) → entries_in h x.info ≡ got s → (r : Answer EntriesRaw) → state_at h s p ≡ r
-            → listing_from x p ≡ or_stop p r (λ w. part_lines x.abbrevs x.rows x.specs h s p w rest) → Leads (or_stop p r (λ w. part_lines x.abbrevs x.rows x.specs h s p w rest))
+            → listing_from x p ≡ or_stop p r (λ w. part_lines x h s p w rest) → Leads (or_stop p r (λ w. part_lines x h s p w rest))
         by_state s f (refused n) g l = one p n l
         by_state s f (got w) g l =
             let z = state_in h s p g in
             let a = p.offset - size_of_header h in
             let b : p.offset ≡ size_of_header h + a = omega (arith, z.1) in
             let q : p ≡ place_in at (size_of_header h + a) p.depth = ap (λ (n : ℕ). place_in n p.offset p.depth) u ∙ ap (λ (n : ℕ). place_in at n p.depth) b in
-            subst (λ (v : EntriesRaw). Leads (part_lines x.abbrevs x.rows x.specs h s p v rest)) z.0
+            subst (λ (v : EntriesRaw). Leads (part_lines x h s p v rest)) z.0
             (part_lead s f p a p.depth q (subst (KeptRaw (length s)) (sym z.0) (state_kept h s p g))
-            (l ∙ ap (λ (v : EntriesRaw). part_lines x.abbrevs x.rows x.specs h s p v rest) (sym z.0)))
+            (l ∙ ap (λ (v : EntriesRaw). part_lines x h s p v rest) (sym z.0)))
 
-        by_part : (r : Answer (List ℕ)) → entries_in h x.info ≡ r → listing_from x p ≡ or_stop p r (λ s. or_stop p (state_at h s p) (λ w. part_lines x.abbrevs x.rows x.specs h s p w rest))
-            → Leads (or_stop p r (λ s. or_stop p (state_at h s p) (λ w. part_lines x.abbrevs x.rows x.specs h s p w rest)))
+        by_part : (r : Answer (List ℕ)) → entries_in h x.info ≡ r → listing_from x p ≡ or_stop p r (λ s. or_stop p (state_at h s p) (λ w. part_lines x h s p w rest))
+            → Leads (or_stop p r (λ s. or_stop p (state_at h s p) (λ w. part_lines x h s p w rest)))
         by_part (refused n) f l = one p n l
         by_part (got s) f l = by_state s f (state_at h s p) refl l
 

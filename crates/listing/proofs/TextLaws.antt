@@ -1,21 +1,19 @@
 -- Laws of numerals, of lines and of text stored.
 use mathlib.Core.Bool.{Bool, true, false, cond}
-use mathlib.Core.Path.{◌≡◌, refl, sym, ap, ◌∙◌}
-use mathlib.Core.List.{List, [], ◌∷◌, ◌++◌, append_assoc, append-nil}
-use Prim.Native.Nat.{ℕ, zero, suc, ◌+◌, ◌-◌, ◌/◌, ◌%◌, ◌^◌, ◌≤◌, ◌<◌}
+use mathlib.Core.Path.{◌≡◌, refl, ap, ◌∙◌}
+use mathlib.Core.List.{List, [], ◌∷◌, ◌++◌, append_assoc}
+use Prim.Native.Nat.{ℕ, zero, suc, ◌+◌, ◌/◌, ◌%◌, ◌^◌, ◌≤◌, ◌<◌}
 use native.Mathlib.Omega.{arith}
 use native.Mathlib.Nat.{div-lt_self, div-lt_iff_lt-mul, pow-zero, pow-suc, one-mul}
-use native.Mathlib.Numerals.{add-one}
-use borrow.Author.Tests.{lt-ltb, le-ltb, ltb-false}
+use borrow.Author.Tests.{lt-ltb, le-ltb, ltb-true, ltb-false}
 use lib.Dec.{ltb}
-use lib.IntN.{ℤ, pos, negsuc}
-use lib.ListN.{length, take, set, get_or, length-append, length-set}
-use lib.Seq.{take-suc, take-suc-set, take_all}
-use lib.Signed.{mag}
-use Rattle.reader.specs.Twos.{word}
+use lib.IntN.{ℤ, pos, negsuc, nat_abs}
+use lib.ListN.{length, take, length-append}
+use lib.Signed.{mag, lt_z}
+use mir.Facts.{to_z-of_z}
 use Rattle.reader.proofs.Answers.{cond_by}
-use Rattle.listing.specs.Text.{digit, numeral_within, numeral, signed_numeral, Line, unit_line, entry_line, null_line, refused_line, end_line, place, text, ascii}
-use Rattle.listing.specs.Written.{Put}
+use Rattle.listing.specs.Text.{digit, numeral_within, numeral, signed_numeral, Line, unit_line, entry_line, null_line, refused_line, end_line, text, ascii}
+use Rattle.listing.specs.Written.{Put, Lined}
 
 -- ---- numerals
 
@@ -72,33 +70,43 @@ pub decimal_most : (n : ℕ) → n < 2 ^ 64 → length (numeral 10 n) ≤ 20
 decimal_most n h = numeral_most 10 19 n (omega arith) (omega arith)
 
 -- with a byte after it
-pub field_most : (base k n x : ℕ) → 2 ≤ base → n < base ^ suc k → length (numeral base n ++ (x ∷ [])) ≤ suc k + 1
+field_most : (base k n x : ℕ) → 2 ≤ base → n < base ^ suc k → length (numeral base n ++ (x ∷ [])) ≤ suc k + 1
 field_most base k n x h l = let m = numeral_most base k n h l in simp length-append (omega arith)
 
 pub decimal_field : (n x : ℕ) → n < 2 ^ 64 → length (numeral 10 n ++ (x ∷ [])) ≤ 21
 decimal_field n x h = field_most 10 19 n x (omega arith) (omega arith)
 
--- the sign of a number by its two's complement
-pub signed_low : (z : ℤ) (w : ℕ) → w ≡ word 64 z → mag z < 2 ^ 63 → w < 2 ^ 63 → signed_numeral z ≡ numeral 10 w
-unfolding signed_numeral word
-signed_low (pos n) w e h l = rw e
-signed_low (negsuc n) w e h l = absurd (omega arith)
+pub version_field : (n x : ℕ) → n < 2 ^ 16 → length (numeral 10 n ++ (x ∷ [])) ≤ 6
+version_field n x h = field_most 10 4 n x (omega arith) (omega arith)
 
-pub signed_high : (z : ℤ) (w : ℕ) → w ≡ word 64 z → mag z < 2 ^ 63 → 2 ^ 63 ≤ w → signed_numeral z ≡ 45 ∷ numeral 10 (2 ^ 64 - 1 - w + 1)
-unfolding signed_numeral word
-signed_high (pos n) w e h l = absurd (omega arith)
-signed_high (negsuc n) w e h l = let f : 2 ^ 64 - 1 - w + 1 ≡ suc n = omega arith in rw f
+pub width_field : (n x : ℕ) → n < 2 ^ 8 → length (numeral 10 n ++ (x ∷ [])) ≤ 4
+width_field n x h = field_most 10 2 n x (omega arith) (omega arith)
+
+pub tag_field : (n x : ℕ) → n < 2 ^ 16 → length (numeral 16 n ++ (x ∷ [])) ≤ 5
+tag_field n x h = field_most 16 3 n x (omega arith) (omega arith)
+
+-- a number and its sign
+pub signed_low : (z : ℤ) → lt_z z (pos 0) ≡ false → signed_numeral z ≡ numeral 10 (nat_abs z)
+unfolding signed_numeral
+signed_low (pos n) e = refl
+signed_low (negsuc n) e = absurd (cc)
+
+pub signed_high : (z : ℤ) → lt_z z (pos 0) ≡ true → signed_numeral z ≡ 45 ∷ numeral 10 (nat_abs z)
+unfolding signed_numeral
+signed_high (pos n) e = absurd (omega (arith, ltb-true n 0 e))
+signed_high (negsuc n) e = refl
+
+pub ruleset signs = (signed_low, signed_high, to_z-of_z)
 
 pub signed_most : (z : ℤ) → mag z < 2 ^ 63 → length (signed_numeral z) ≤ 20
 unfolding signed_numeral
 signed_most (pos n) h = decimal_most n (omega arith)
 signed_most (negsuc n) h = let m = numeral_most 10 18 (suc n) (omega arith) (omega arith) in omega arith
 
--- ---- lines
+-- the room of what is written
+pub ruleset rooms = (decimal_field, version_field, width_field, tag_field, signed_most)
 
--- an offset and a depth
-pub place_most : (offset : ℕ) (depth : ℤ) → offset < 2 ^ 64 → mag depth < 2 ^ 63 → length (place offset depth) ≤ 41
-place_most offset depth a b = simp length-append (omega (arith, decimal_most offset a, signed_most depth b))
+-- ---- lines
 
 -- the numbers of a line fit the code's types
 abbrev pub Fitted : Line → Type 0
@@ -130,9 +138,9 @@ text_some (null_line offset depth) = simp length-append (omega arith)
 text_some (refused_line n) = simp length-append (omega arith)
 text_some end_line = omega arith
 
--- where it ends
-pub line_ends : {a b : List ℕ} {at r : ℕ} (l : Line) → Fitted l → Put a b at r (text l) → r ≤ at + 72
-line_ends l f p = omega (arith, text_most l f, p.ends)
+-- a line written
+pub lined : {a b : List ℕ} {at r : ℕ} (l : Line) → Fitted l → Put a b at r (text l) → Lined a b at l r
+lined l f p = record { put = p; most = omega (arith, text_most l f, p.ends) }
 
 -- the lines of document 01
 sample : text (unit_line 0 4 32 8) ++ text (entry_line 11 (pos 0) 0x11 1) ++ text (entry_line 14 (pos 1) 0x34 1) ++ text (entry_line 16 (pos 1) 0x34 1) ++ text (null_line 18 (pos 1)) ++ text end_line
@@ -147,14 +155,6 @@ sample_more = refl
 
 -- ---- text stored
 
--- nothing
-pub put_none : (l : List ℕ) (at : ℕ) → Put l l at at []
-put_none l at = record { ends = omega arith; bytes = sym (append-nil (take at l)) }
-
--- one byte
-pub put_one : (l : List ℕ) (at b : ℕ) → at < length l → Put l (set l at b) at (at + 1) (b ∷ [])
-put_one l at b h = record { ends = refl; bytes = rw (add-one at) (take-suc-set l at b h) }
-
 module _ {a b c t : List ℕ} {at r q : ℕ} (p : Put a b at r t) where
   -- one text after another
   pub put_then : {u : List ℕ} → Put b c r q u → Put a c at q (t ++ u)
@@ -167,26 +167,3 @@ module _ {a b c t : List ℕ} {at r q : ℕ} (p : Put a b at r t) where
   -- a number and a byte after it
   pub put_then_field : (base n x : ℕ) → Put b c r q (numeral base n ++ (x ∷ [])) → Put a c at q (t ++ numeral base n ++ (x ∷ []))
   put_then_field base n x s = rw (append_assoc t (numeral base n) (x ∷ [])) (put_then s)
-
--- the first i of some bytes are stored from `at` on
-pub record Copied (l₀ b : List ℕ) (at : ℕ) (l : List ℕ) (p i : ℕ) : Type 0 where
-  pub until : i ≤ length b
-  pub place : p ≡ at + i
-  pub same : length l ≡ length l₀
-  pub put : Put l₀ l at p (take i b)
-
-pub copy_begun : (l b : List ℕ) (at : ℕ) → Copied l b at l at 0
-copy_begun l b at = record { until = omega arith; place = omega arith; same = refl; put = put_none l at }
-
-module _ {l₀ b : List ℕ} {at : ℕ} {l : List ℕ} {p i : ℕ} (t : Copied l₀ b at l p i) where
-  pub copy_further : i < length b → p < length l → Copied l₀ b at (set l p (get_or b i 0)) (p + 1) (i + 1)
-  copy_further h k =
-      record {
-        until = omega arith;
-        place = omega (arith, t.place);
-        same = simp length-set t.same;
-        put = rw (add-one i, take-suc b i 0 h) (put_then t.put (put_one l p (get_or b i 0) k));
-      }
-
-  pub copy_ended : length b ≤ i → Put l₀ l at p b
-  copy_ended h = rw (take_all i b h) at t.put

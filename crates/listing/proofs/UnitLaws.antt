@@ -1,6 +1,6 @@
 -- Laws of the lines of units.
-use mathlib.Core.Bool.{Bool, true, false, cond}
-use mathlib.Core.Path.{◌≡◌, refl, sym, ap, ◌∙◌, subst}
+use mathlib.Core.Bool.{cond}
+use mathlib.Core.Path.{◌≡◌, refl, sym, ap, ◌∙◌}
 use mathlib.Core.List.{List, [], ◌∷◌}
 use mathlib.Core.Option.{Option, none, some}
 use Prim.Native.Nat.{ℕ, zero, suc, ◌-◌, ◌<◌}
@@ -17,7 +17,11 @@ use Rattle.abbrev.specs.Table.{Declaration}
 use Rattle.abbrev.proofs.Bounds.{Sound}
 use Rattle.abbrev.proofs.Lookups.{lookup_in_order}
 use Rattle.unit.specs.Parse.{debug_info}
-use Rattle.unit.specs.Units.{next_unit}
+use Rattle.unit.specs.Units.{Advanced, next_unit}
+use Rattle.unit.specs.Views.{view_next, view_next_unit}
+use Rattle.unit.specs.declared.units.Next.{Next}
+use Rattle.reader.specs.declared.error.Error.{Error}
+use Rattle.reader.specs.Errors.{number_of}
 use Rattle.unit.specs.declared.header.UnitHeader.{UnitHeader}
 use Rattle.unit.proofs.UnitsLaws.{unit_in, unit_further}
 use Rattle.entries.proofs.SameLaws.{entry_same}
@@ -28,11 +32,8 @@ use Rattle.entries.specs.declared.raw.EntriesRaw.{EntriesRaw}
 use Rattle.entries.specs.Read.{Source, entry_at, after_entry}
 use Rattle.listing.specs.Listing.{Placed, place_of, put, or_stop, read_lines, item_lines, Shelf, unit_entries, unit_all, units_within, unit_lines, inner_lines}
 use Rattle.listing.specs.Text.{end_line, refused_line}
-use Rattle.listing.specs.Written.{part_of, adds, Held, Added, Written}
-use Rattle.listing.specs.declared.list.Wrote.{Wrote}
+use Rattle.listing.specs.Written.{Fit}
 use Rattle.listing.specs.declared.place.ListingPlace.{ListingPlace}
-use Rattle.listing.specs.declared.piece.Piece.{Piece}
-use Rattle.listing.proofs.PieceLaws.{added_in, written_in}
 
 -- ---- tables: whichever row holds which declaration, the lines are the same
 
@@ -90,75 +91,6 @@ module _ (x : Shelf) where
       (λ f g a h. same_by f g a (λ u e. h (behind a) (omega (arith, further_unit a u e, (unit_in debug_info x.info a Little e).there))))
       (λ f a e. absurd (omega (arith, e))) at
 
--- as many lent words, the same lines
-pub written_same : (x : Shelf) (lines : Shelf → List Placed → List Placed) {i k : ℕ} {p : Piece} {out out' : List ℕ} {r : Wrote} → i ≡ x.rows → k ≡ x.specs
-    → Written out out' p (lines (record { abbrevs = x.abbrevs; info = x.info; rows = i; specs = k })) r → Written out out' p (lines x) r
-written_same x lines {i} {k} {p} {out} {out'} {r} e f w =
-    subst (λ (n : ℕ). Written out out' p (lines (record { abbrevs = x.abbrevs; info = x.info; rows = x.rows; specs = n })) r) f
-    (subst (λ (n : ℕ). Written out out' p (lines (record { abbrevs = x.abbrevs; info = x.info; rows = n; specs = k })) r) e w)
-
-pub added_same : (x : Shelf) (lines : Shelf → List Placed) {i k : ℕ} {p r : Piece} {out out' : List ℕ} → i ≡ x.rows → k ≡ x.specs
-    → Added out out' p (lines (record { abbrevs = x.abbrevs; info = x.info; rows = i; specs = k })) r → Added out out' p (lines x) r
-added_same x lines {i} {k} {p} {r} {out} {out'} e f w =
-    subst (λ (n : ℕ). Added out out' p (lines (record { abbrevs = x.abbrevs; info = x.info; rows = x.rows; specs = n })) r) f
-    (subst (λ (n : ℕ). Added out out' p (lines (record { abbrevs = x.abbrevs; info = x.info; rows = n; specs = k })) r) e w)
-
--- lines that were written, and those behind them unless they stopped
-module _ (out₀ out out' : List ℕ) (p q : Piece) (all : List Placed → List Placed) (r : Wrote) (ls rest : List Placed) (same : length out ≡ length out₀)
-    (is : adds (length out₀) (part_of p out₀) ls ≡ adds (length out₀) (part_of q out) (all rest)) (w : Written out out' q all r) where
-  by_stop : (b : Bool) → r.stopped ≡ b → adds (length out₀) (part_of p out₀) ls ≡ cond b (part_of r.piece out') (adds (length out₀) (part_of r.piece out') rest)
-  by_stop b f = is ∙ written_in same w rest ∙ ap (λ (c : Bool). cond c (part_of r.piece out') (adds (length out₀) (part_of r.piece out') rest)) f
-
-  pub lines_stopped : r.stopped ≡ true → Added out₀ out' p ls r.piece
-  lines_stopped f = record { held = w.held; is = sym (by_stop true f) }
-
-  pub lines_further : r.stopped ≡ false → adds (length out₀) (part_of p out₀) ls ≡ adds (length out₀) (part_of r.piece out') rest
-  lines_further f = by_stop false f
-
--- ---- the loop over units
-
-module _ (x : Shelf) (from : ℕ) where
-  -- lines that were added, and those still to come
-  pub record Shelved (out₀ : List ℕ) (p : Piece) (out : List ℕ) (at : ℕ) (q : Piece) : Type 0 where
-    pub same : length out ≡ length out₀
-    pub held : Held (length out) q
-    pub is : adds (length out₀) (part_of p out₀) (unit_lines x from) ≡ adds (length out₀) (part_of q out) (unit_lines x at)
-
-  pub shelved_begun : (out : List ℕ) (p : Piece) → Held (length out) p → Shelved out p out from p
-  shelved_begun out p h = record { same = refl; held = h; is = refl }
-
-  pub shelved_at : {out₀ out : List ℕ} {p q : Piece} {a b : ℕ} → a ≡ b → Shelved out₀ p out a q → Shelved out₀ p out b q
-  shelved_at {out₀} {out} {p} {q} e t = subst (λ (n : ℕ). Shelved out₀ p out n q) e t
-
-  module _ {out₀ : List ℕ} {p : Piece} {out : List ℕ} {at : ℕ} {q : Piece} (t : Shelved out₀ p out at q) where
-    -- the last line
-    shelved_last : {out' : List ℕ} {r : Piece} {ls : List Placed} → unit_lines x at ≡ ls → Added out out' q ls r → Added out₀ out' p (unit_lines x from) r
-    shelved_last {out'} {r} e d = record { held = d.held; is = sym (t.is ∙ ap (adds (length out₀) (part_of q out)) e ∙ added_in t.same d) }
-
-    last_none : answer_at x at ≡ got none → unit_lines x at ≡ put (place_of at) end_line ∷ []
-    last_none e = units_step x at ∙ rw e
-
-    last_refused : {n : ℕ} → answer_at x at ≡ refused n → unit_lines x at ≡ put (place_of at) (refused_line n) ∷ []
-    last_refused e = units_step x at ∙ rw e
-
-    pub shelved_none : {a : ListingPlace} {out' : List ℕ} {r : Piece} → answer_at x at ≡ got none → a ≡ place_of at → Added out out' q (put a end_line ∷ []) r → Added out₀ out' p (unit_lines x from) r
-    shelved_none e f d = shelved_last (last_none e ∙ ap (λ (a : ListingPlace). put a end_line ∷ []) (sym f)) d
-
-    pub shelved_refused : {n : ℕ} {a : ListingPlace} {out' : List ℕ} {r : Piece} → answer_at x at ≡ refused n → a ≡ place_of at → Added out out' q (put a (refused_line n) ∷ []) r → Added out₀ out' p (unit_lines x from) r
-    shelved_refused {n} e f d = shelved_last (last_refused e ∙ ap (λ (a : ListingPlace). put a (refused_line n) ∷ []) (sym f)) d
-
-    module _ {h : UnitHeader} (e : answer_at x at ≡ got (some h)) {out' : List ℕ} {r : Wrote} (w : Written out out' q (unit_all x at h) r) where
-      opened : adds (length out₀) (part_of p out₀) (unit_lines x from) ≡ adds (length out₀) (part_of q out) (unit_all x at h (unit_lines x (behind x at)))
-      opened =
-          let f : unit_lines x at ≡ unit_all x at h (unit_lines x (behind x at)) = units_step x at ∙ rw e in
-          t.is ∙ ap (adds (length out₀) (part_of q out)) f
-
-      pub shelved_stopped : r.stopped ≡ true → Added out₀ out' p (unit_lines x from) r.piece
-      shelved_stopped f = lines_stopped out₀ out out' p q (unit_all x at h) r (unit_lines x from) (unit_lines x (behind x at)) t.same opened w f
-
-      pub shelved_further : r.stopped ≡ false → length out' ≡ length out → Shelved out₀ p out' (behind x at) r.piece
-      shelved_further f l = record { same = l ∙ t.same; held = w.held; is = lines_further out₀ out out' p q (unit_all x at h) r (unit_lines x from) (unit_lines x (behind x at)) t.same opened w f }
-
 -- ---- from the middle of a unit on
 
 module _ (x : Shelf) (a : ListingPlace) where
@@ -170,18 +102,48 @@ module _ (x : Shelf) (a : ListingPlace) where
   unfolding inner_lines
   inner_refused e = rw e
 
-  module _ {h : UnitHeader} (e : answer_at x a.unit ≡ got (some h)) where
-    pub inner_unit : inner_lines x a ≡ unit_entries x h a (unit_lines x (behind x a.unit))
-    unfolding inner_lines
-    inner_unit = rw e
+  pub inner_unit : {h : UnitHeader} → answer_at x a.unit ≡ got (some h) → inner_lines x a ≡ unit_entries x h a (unit_lines x (behind x a.unit))
+  unfolding inner_lines
+  inner_unit e = rw e
 
-    module _ {out out' : List ℕ} {p : Piece} {r : Wrote} (w : Written out out' p (unit_entries x h a) r) where
-      start : adds (length out) (part_of p out) (inner_lines x a) ≡ adds (length out) (part_of p out) (unit_entries x h a (unit_lines x (behind x a.unit)))
-      start = ap (adds (length out) (part_of p out)) inner_unit
+-- ---- what the code is told of the unit at a place
 
-      pub inner_stopped : r.stopped ≡ true → Added out out' p (inner_lines x a) r.piece
-      inner_stopped f = lines_stopped out out out' p p (unit_entries x h a) r (inner_lines x a) (unit_lines x (behind x a.unit)) refl start w f
+module _ (x : Shelf) (at : ℕ) (r : Next) (e : view_next r ≡ next_unit debug_info x.info at Little) where
+  pub told : {u : Answer (Option UnitHeader)} → view_next_unit r.unit ≡ u → answer_at x at ≡ u
+  told f = sym (ap (λ (y : Advanced). y.answer) e) ∙ f
 
-      -- and then the other units
-      pub inner_further : r.stopped ≡ false → length out' ≡ length out → {out'' : List ℕ} {q : Piece} → Added out' out'' r.piece (unit_lines x (behind x a.unit)) q → Added out out'' p (inner_lines x a) q
-      inner_further f l d = record { held = d.held; is = sym (lines_further out out out' p p (unit_entries x h a) r (inner_lines x a) (unit_lines x (behind x a.unit)) refl start w f ∙ added_in l d) }
+  behind_is : (f : ℕ → List Placed) → f (behind x at) ≡ f r.units.offset
+  behind_is f = ap f (sym (ap (λ (y : Advanced). y.offset) e))
+
+  module _ {h : UnitHeader} (f : view_next_unit r.unit ≡ got (some h)) where
+    -- it lies inside
+    pub unit_fits : Fit (length x.info) h
+    unit_fits =
+        let z = unit_in debug_info x.info at Little (told f) in
+        record { short = z.short; there = omega (arith, z.offset, z.next_is, z.there); header = z.header }
+
+    -- and takes some of the bytes
+    pub unit_less : length x.info - r.units.offset < length x.info - at
+    unit_less =
+        let z = unit_in debug_info x.info at Little (told f) in
+        omega (arith, further_unit x at h (told f), z.there, ap (λ (y : Advanced). y.offset) e)
+
+    pub unit_first : unit_lines x at ≡ unit_all x at h (unit_lines x r.units.offset)
+    unit_first = units_step x at ∙ rw (told f) (behind_is (λ (n : ℕ). unit_all x at h (unit_lines x n)))
+
+  pub unit_none : view_next_unit r.unit ≡ got none → unit_lines x at ≡ put (place_of at) end_line ∷ []
+  unit_none f = units_step x at ∙ rw (told f)
+
+  pub unit_refused : (n : Error) → view_next_unit r.unit ≡ refused (number_of n) → unit_lines x at ≡ put (place_of at) (refused_line (number_of n)) ∷ []
+  unit_refused n f = units_step x at ∙ rw (told f)
+
+-- the same from the middle of a unit on
+module _ (x : Shelf) (a : ListingPlace) (r : Next) (e : view_next r ≡ next_unit debug_info x.info a.unit Little) where
+  pub entries_first : {h : UnitHeader} → view_next_unit r.unit ≡ got (some h) → inner_lines x a ≡ unit_entries x h a (unit_lines x r.units.offset)
+  entries_first {h} f = inner_unit x a (told x a.unit r e f) ∙ behind_is x a.unit r e (λ (n : ℕ). unit_entries x h a (unit_lines x n))
+
+  pub entries_none : view_next_unit r.unit ≡ got none → inner_lines x a ≡ put a (refused_line 1) ∷ []
+  entries_none f = inner_none x a (told x a.unit r e f)
+
+  pub entries_refused : (n : Error) → view_next_unit r.unit ≡ refused (number_of n) → inner_lines x a ≡ put a (refused_line (number_of n)) ∷ []
+  entries_refused n f = inner_refused x a (told x a.unit r e f)

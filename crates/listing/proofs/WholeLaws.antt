@@ -1,62 +1,60 @@
 -- Laws of the whole listing.
-use mathlib.Core.Bool.{true, false}
 use mathlib.Core.Path.{◌≡◌, refl, sym, ap, ◌∙◌}
 use mathlib.Core.List.{List, [], ◌∷◌, ◌++◌, append_assoc}
-use Prim.Native.Nat.{ℕ, ◌-◌, ◌≤◌, ◌<◌}
+use Prim.Native.Nat.{ℕ, ◌+◌, ◌-◌, ◌≤◌, ◌<◌}
 use native.Mathlib.Omega.{arith}
 use borrow.Author.Tests.{ltb-true}
-use lib.Dec.{ltb}
 use lib.ListN.{length, take, drop, replicate, length-append, take-append-drop}
 use lib.Seq.{length-take-le}
+use Rattle.std.specs.Prelude.{Option, Some, None, is_some, unwrap_or}
+use Rattle.std.specs.declared.ops.ControlFlow.{ControlFlow}
+use Rattle.std.specs.declared.ops.ControlFlow.TheVariants.{Continue, Break}
 use Rattle.abbrev.specs.Rows.{Blank}
 use Rattle.listing.specs.Listed.{ListedAs}
-use Rattle.listing.specs.Listing.{Placed, place_of, listing_from}
-use Rattle.listing.specs.Piece.{texts, room, fitting, first_place}
+use Rattle.listing.specs.Listing.{Placed, Shelf, place_of, listing_from}
+use Rattle.listing.specs.Piece.{texts, room, fitting}
 use Rattle.listing.specs.Text.{text}
-use Rattle.listing.specs.Written.{Part, part_of, adds, Held, Added}
+use Rattle.listing.specs.Written.{Part, part_of, adds, followed, Written, Lent, shelf_of}
 use Rattle.listing.specs.declared.list.Listed.{Listed}
+use Rattle.listing.specs.declared.list.Shelf as code_shelf
+use Rattle.listing.specs.declared.lines.Lines.{Lines}
 use Rattle.listing.specs.declared.place.ListingPlace.{ListingPlace}
-use Rattle.listing.specs.declared.piece.Piece.{Piece}
-use Rattle.listing.proofs.PieceLaws.{filled, adds_are, fitting_leads, fitting_some, texts_many}
+use Rattle.listing.proofs.LinesLaws.{made, filled, adds_are, fitting_leads, fitting_some, texts_many, place_of_first, first_is, first_there}
 
--- a piece without a line
-abbrev pub empty : ListingPlace → Piece
-empty a = record { lines = 0; end = 0; full = false; place = a }
+-- all lines that were added to none are those that fit
+added_all : {a b : Lines} {ls : List Placed} {flow : ControlFlow (Unit {0}) (Unit {0})} → a.count ≡ 0 → a.end ≡ 0 → a.next ≡ None → Written a b (λ rest. ls) flow → part_of b ≡ filled (length a.out.now) 0 [] ls
+added_all {a} {b} {ls} {flow} e f g w = by flow (w.is []) ∙ rw (e, f, g) (adds_are (length a.out.now) 0 [] ls)
+  where
+    by : (flow : ControlFlow (Unit {0}) (Unit {0})) → adds (length a.out.now) (part_of a) ls ≡ followed (length a.out.now) flow (part_of b) [] → part_of b ≡ adds (length a.out.now) (part_of a) ls
+    by (Continue u) q = sym q
+    by (Break u) q = sym q
 
-pub empty_held : (n : ℕ) (a : ListingPlace) → Held n (empty a)
-empty_held n a = record { inside = omega arith; few = omega arith }
-
--- all lines, and zeros behind those of the piece
-module _ (abbrevs info rows₀ specs₀ : List ℕ) (a : ListingPlace) (out₀ : List ℕ) where
+-- all lines, and zeros behind those that fit
+module _ (x : code_shelf.Shelf) (p : ListingPlace) where
   abbrev all : List Placed
-  all = listing_from (record { abbrevs = abbrevs; info = info; rows = length rows₀; specs = length specs₀ }) a
+  all = listing_from (shelf_of x) p
 
-  pub listed_whole : (rows₁ specs₁ out₁ : List ℕ) {rows specs out : List ℕ} {z : ListingPlace} {p : Piece} → z ≡ place_of 0
-      → Added out₀ out₁ (empty z) all p
-      → length rows₁ ≡ length rows₀ → length specs₁ ≡ length specs₀ → length out₁ ≡ length out₀
-      → out ≡ take p.end out₁ ++ replicate (length out₁ - p.end) 0 → Blank rows₁ specs₁ rows specs
-      → ListedAs abbrevs info rows₀ specs₀ a out₀ rows specs out (record { bytes = p.end; lines = p.lines; more = p.full; place = p.place })
-  listed_whole rows₁ specs₁ out₁ {rows} {specs} {out} {z = y} {p} g w i k l o b =
-      let e : part_of p out₁ ≡ filled (length out₀) 0 [] all = w.is ∙ ap (λ (q : ListingPlace). adds_from q) g ∙ adds_are (length out₀) 0 [] all in
-      let z : length out₀ - 0 ≡ length out₀ = omega arith in
-      let t : take p.end out₁ ≡ texts (fitting (length out₀) all) = ap (λ (q : Part). q.bytes) e ∙ ap (λ (n : ℕ). texts (fitting n all)) z in
-      let c : p.lines ≡ length (fitting (length out₀) all) = ap (λ (q : Part). q.lines) e ∙ omega arith ∙ ap (λ (n : ℕ). length (fitting n all)) z in
-      let m : p.full ≡ ltb (length (fitting (length out₀) all)) (length all) = ap (λ (q : Part). q.full) e ∙ ap (λ (n : ℕ). ltb (length (fitting n all)) (length all)) z in
-      let f : p.place ≡ first_place (drop (length (fitting (length out₀) all)) all) = ap (λ (q : Part). q.place) e ∙ ap (λ (n : ℕ). first_place (drop (length (fitting n all)) all)) z in
+  pub listed_whole : {a b : Lines} {y : code_shelf.Shelf} {flow : ControlFlow (Unit {0}) (Unit {0})} {rows specs out : List ℕ} → a.count ≡ 0 → a.end ≡ 0 → a.next ≡ None
+      → Written a b (λ rest. all) flow → Lent x y → Blank y.rows.now y.specs.now rows specs → out ≡ take b.end b.out.now ++ replicate (length b.out.now - b.end) 0
+      → ListedAs x.abbrevs.now x.info.now x.rows.now x.specs.now p a.out.now rows specs out (record { bytes = b.end; lines = b.count; next = b.next })
+  listed_whole {a} {b} {y} {flow} {rows} {specs} {out} e f g w t k o =
+      let n = length a.out.now in
+      let z : n - 0 ≡ n = omega arith in
+      let d : part_of b ≡ made (0 + length (fitting n all)) (texts (fitting n all)) (place_of_first (drop (length (fitting n all)) all)) = rw z at (added_all e f g w) in
+      let c : b.count ≡ length (fitting n all) = ap (λ (q : Part). q.count) d ∙ omega arith in
+      let i : take b.end b.out.now ≡ texts (fitting n all) = ap (λ (q : Part). q.bytes) d in
+      let j : b.next ≡ place_of_first (drop b.count all) = ap (λ (q : Part). q.next) d ∙ ap (λ (m : ℕ). place_of_first (drop m all)) (sym c) in
       record {
         lines = all;
         lines_are = refl;
-        bytes_is = sym (length-take-le p.end out₁ w.held.inside) ∙ ap length t;
-        out_is = o ∙ ap (λ (x : List ℕ). x ++ replicate (length out₁ - p.end) 0) t ∙ ap (λ (n : ℕ). texts (fitting (length out₀) all) ++ replicate (n - p.end) 0) l;
+        bytes_is = sym (length-take-le b.end b.out.now b.inside) ∙ ap length i;
+        out_is = o ∙ ap (λ (m : List ℕ). m ++ replicate (length b.out.now - b.end) 0) i ∙ ap (λ (m : ℕ). texts (fitting n all) ++ replicate (m - b.end) 0) w.same;
         count_is = c;
-        more_is = m ∙ ap (λ (n : ℕ). ltb n (length all)) (sym c);
-        place_is = f ∙ ap (λ (n : ℕ). first_place (drop n all)) (sym c);
-        rows_are = b.no_rows ∙ ap (λ (n : ℕ). replicate n 0) i;
-        specs_are = b.no_specs ∙ ap (λ (n : ℕ). replicate n 0) k;
+        more_is = ap is_some j ∙ first_there b.count all;
+        place_is = ap (λ (q : Option ListingPlace). unwrap_or q (place_of 0)) j ∙ first_is (drop b.count all);
+        rows_are = k.no_rows ∙ ap (λ (s : Shelf). replicate s.rows 0) t.shelf;
+        specs_are = k.no_specs ∙ ap (λ (s : Shelf). replicate s.specs 0) t.shelf;
       }
-    where
-      adds_from : ListingPlace → Part
-      adds_from q = adds (length out₀) (part_of (empty q) out₀) all
 
 module _ {abbrevs info rows₀ specs₀ : List ℕ} {a : ListingPlace} {out₀ rows specs out : List ℕ} {r : Listed} (z : ListedAs abbrevs info rows₀ specs₀ a out₀ rows specs out r) where
   pub listed_inside : r.bytes ≤ length out
@@ -71,11 +69,11 @@ module _ {abbrevs info rows₀ specs₀ : List ℕ} {a : ListingPlace} {out₀ r
   listed_few = omega (arith, texts_many (fitting (length out₀) z.lines), z.count_is, z.bytes_is)
 
   -- where there are lines behind it and room for one, a piece has a line
-  pub listed_some : r.more ≡ true → room ≤ length out₀ → 0 < r.lines
+  pub listed_some : {q : ListingPlace} → r.next ≡ Some q → room ≤ length out₀ → 0 < r.lines
   listed_some e h = go z.lines refl
     where
       l : r.lines < length z.lines
-      l = ltb-true r.lines (length z.lines) (sym z.more_is ∙ e)
+      l = ltb-true r.lines (length z.lines) (sym z.more_is ∙ ap is_some e)
 
       go : (ls : List Placed) → z.lines ≡ ls → 0 < r.lines
       go [] q = absurd (let m = ap length q in omega (arith, l, m))

@@ -1,16 +1,23 @@
 -- The code's answers about its input in the definitions' terms.
+use Rattle.std.specs.Prelude.{ℕ, ◌≤◌, List, length, Result, Ok, Err}
+use Rattle.std.specs.declared.ops.Range.{Range}
 use Rattle.listing.specs.Input as spec
+use Rattle.listing.specs.declared.input.InputError.{InputError}
+use Rattle.listing.specs.declared.input.InputError.TheVariants.{TooLong, Short}
 use Rattle.listing.specs.declared.input.Input.{Input}
-use Rattle.listing.specs.declared.input.Input.TheVariants as input
-use Rattle.listing.specs.declared.input.Section.{Section}
-use Rattle.listing.specs.declared.input.Section.TheVariants as section
 
-abbrev pub view_section : Section → spec.Section
-view_section (section.Lies a b) = spec.lies a b
-view_section section.TooLong = spec.too_long
-view_section section.Short = spec.short
+abbrev pub view_error : InputError → spec.Section
+view_error TooLong = spec.too_long
+view_error Short = spec.short
 
-abbrev pub view_input : Input → spec.Input
-view_input (input.Both a b c d) = spec.both a b c d
-view_input input.TooLong = spec.not_both spec.too_long
-view_input input.Short = spec.not_both spec.short
+abbrev pub view_section : Result (Range ℕ) InputError → spec.Section
+view_section (Ok r) = spec.lies r.start r.end
+view_section (Err e) = view_error e
+
+abbrev pub view_input : Result Input InputError → spec.Input
+view_input (Ok s) = spec.both s.abbrevs.start s.abbrevs.end s.info.start s.info.end
+view_input (Err e) = spec.not_both (view_error e)
+
+-- a part of some bytes
+abbrev pub Within : List ℕ → Range ℕ → Type 0
+Within s r = (r.start ≤ r.end) × (r.end ≤ length s)

@@ -88,18 +88,18 @@ state_at h s p =
     (got (moved_to (beginning h) (p.offset - size_of_header h) p.depth))
     (refused 1)
 
--- the entries from a state on with the unit's own table in m and k lent words, and what follows them; without entry bytes there are none, and the table is unread
-unfoldable pub part_lines : List ℕ → ℕ → ℕ → UnitHeader → List ℕ → ListingPlace → EntriesRaw → List Placed → List Placed
-part_lines abbrevs m k h s p w rest =
+-- the entries from a state on with the unit's own table in the lent words, and what follows them; without entry bytes there are none, and the table is unread
+unfoldable pub part_lines : Shelf → UnitHeader → List ℕ → ListingPlace → EntriesRaw → List Placed → List Placed
+part_lines x h s p w rest =
     cond (eqb (length s) 0)
     rest
-    (or_stop p (abbreviations_at abbrevs h.debug_abbrev_offset entry_limit (m / 5) (k / 3))
-    (λ t. item_lines entry_limit.most p.unit w s (table_rows m t) (table_specs k t) rest))
+    (or_stop p (abbreviations_at x.abbrevs h.debug_abbrev_offset entry_limit (x.rows / 5) (x.specs / 3))
+    (λ t. item_lines entry_limit.most p.unit w s (table_rows x.rows t) (table_specs x.specs t) rest))
 
 -- the entries of a unit from a place on, and what follows them
 unfoldable pub unit_entries : Shelf → UnitHeader → ListingPlace → List Placed → List Placed
 unit_entries x h p rest =
-    or_stop p (entries_in h x.info) (λ s. or_stop p (state_at h s p) (λ w. part_lines x.abbrevs x.rows x.specs h s p w rest))
+    or_stop p (entries_in h x.info) (λ s. or_stop p (state_at h s p) (λ w. part_lines x h s p w rest))
 
 -- a unit: its line, then its entries
 abbrev pub unit_all : Shelf → ℕ → UnitHeader → List Placed → List Placed

@@ -1,15 +1,18 @@
 -- What the functions that write lines promise.
-use Rattle.std.specs.Prelude.{Bool, true, cond, List, [], ◌∷◌, ◌++◌, ◌≡◌, ℕ, zero, suc, ◌+◌, ◌*◌, ◌≤◌, leb, length, take, drop, get_or}
+use Rattle.std.specs.Prelude.{cond, List, [], ◌∷◌, ◌++◌, ◌≡◌, ℕ, ◌+◌, ◌≤◌, leb, length, take, get_or, Option, Some, is_some, All}
+use Rattle.std.specs.declared.ops.ControlFlow.{ControlFlow}
+use Rattle.std.specs.declared.ops.ControlFlow.TheVariants.{Continue, Break}
+use Rattle.reader.specs.Errors.{number_of}
 use Rattle.reader.specs.Sizes.{max_section}
 use Rattle.reader.specs.Twos.{twos}
 use Rattle.unit.specs.Header.{size_of_header, unit_end}
 use Rattle.unit.specs.declared.header.UnitHeader.{UnitHeader}
-use Rattle.listing.specs.Listing.{Placed, put, place_in, item_text}
+use Rattle.listing.specs.Listing.{Placed, put, place_in, head_line, item_text, Shelf}
 use Rattle.listing.specs.Piece.{room}
-use Rattle.listing.specs.Text.{Line, unit_line, entry_line, null_line, refused_line, end_line, text}
-use Rattle.listing.specs.declared.list.Wrote.{Wrote}
+use Rattle.listing.specs.Text.{Line, refused_line, end_line, text}
+use Rattle.listing.specs.declared.list.Shelf as code_shelf
 use Rattle.listing.specs.declared.place.ListingPlace.{ListingPlace}
-use Rattle.listing.specs.declared.piece.Piece.{Piece}
+use Rattle.listing.specs.declared.lines.Lines.{Lines}
 use Rattle.listing.specs.declared.text.Line as code
 use Rattle.listing.specs.declared.text.Line.TheVariants as line
 
@@ -20,77 +23,61 @@ pub record Put (before after : List ℕ) (at r : ℕ) (t : List ℕ) : Type 0 wh
   pub ends : r ≡ at + length t
   pub bytes : take r after ≡ take at before ++ t
 
--- ---- line by line
-
-abbrev pub view_line : code.Line → Line
-view_line (line.Unit offset version bits width) = unit_line offset version bits width
-view_line (line.Entry offset depth tag count) = entry_line offset depth tag count
-view_line (line.Null offset depth) = null_line offset depth
-view_line (line.Refused number) = refused_line number
-view_line line.End = end_line
-
--- how many lines a piece has, whether one found no room, its bytes, and where the first that found none stands
-pub record Part : Type 0 where
-  pub lines : ℕ
-  pub full : Bool
-  pub bytes : List ℕ
-  pub place : ListingPlace
-
--- a piece and the buffer that has its bytes
-abbrev pub part_of : Piece → List ℕ → Part
-part_of p out = record { lines = p.lines; full = p.full; bytes = take p.end out; place = p.place }
-
--- with one more line: it is held, or has no room
-unfoldable pub add : ℕ → Part → Placed → Part
-add n p l =
-    cond p.full p
-    (cond (leb (length p.bytes + room) n)
-    (record { lines = p.lines + 1; full = p.full; bytes = p.bytes ++ text l.line; place = p.place })
-    (record { lines = p.lines; full = true; bytes = p.bytes; place = l.place }))
-
-abbrev pub adds : ℕ → Part → List Placed → Part
-adds n p [] = p
-adds n p (l ∷ ls) = adds n (add n p l) ls
-
--- a piece that lies in a buffer of n bytes; each line has a byte
-pub record Held (n : ℕ) (p : Piece) : Type 0 where
-  pub inside : p.end ≤ n
-  pub few : p.lines ≤ p.end
-
 -- a line written, within a line's room
 pub record Lined (before after : List ℕ) (at : ℕ) (l : Line) (r : ℕ) : Type 0 where
   pub put : Put before after at r (text l)
   pub most : r ≤ at + room
 
--- lines added
-pub record Added (before after : List ℕ) (p : Piece) (ls : List Placed) (r : Piece) : Type 0 where
-  pub held : Held (length after) r
-  pub is : part_of r after ≡ adds (length before) (part_of p before) ls
+abbrev pub view_line : code.Line → Line
+view_line (line.Unit h) = head_line h
+view_line (line.Refused e) = refused_line (number_of e)
+view_line line.End = end_line
 
--- the lines of `all`, with what follows them unless they stop
-pub record Written (before after : List ℕ) (p : Piece) (all : List Placed → List Placed) (r : Wrote) : Type 0 where
-  pub held : Held (length after) r.piece
-  pub is : (rest : List Placed) → adds (length before) (part_of p before) (all rest) ≡ cond r.stopped (part_of r.piece after) (adds (length before) (part_of r.piece after) rest)
+-- ---- line by line
 
--- a refusal's line, and nothing behind it
-abbrev pub refusal : ListingPlace → ℕ → List Placed → List Placed
-refusal p n rest = put p (refused_line n) ∷ []
+-- how many lines there are, their bytes, and where the first stands that found no room
+pub record Part : Type 0 where
+  pub count : ℕ
+  pub bytes : List ℕ
+  pub next : Option ListingPlace
+
+abbrev pub part_of : Lines → Part
+part_of l = record { count = l.count; bytes = take l.end l.out.now; next = l.next }
+
+-- with one more line: it is held, or has no room
+unfoldable pub add : ℕ → Part → Placed → Part
+add n p l =
+    cond (is_some p.next) p
+    (cond (leb (length p.bytes + room) n)
+    (record { count = p.count + 1; bytes = p.bytes ++ text l.line; next = p.next })
+    (record { count = p.count; bytes = p.bytes; next = Some l.place }))
+
+abbrev pub adds : ℕ → Part → List Placed → Part
+adds n p [] = p
+adds n p (l ∷ ls) = adds n (add n p l) ls
+
+-- what follows is added, unless they break off
+abbrev pub followed : ℕ → ControlFlow (Unit {0}) (Unit {0}) → Part → List Placed → Part
+followed n (Continue u) p rest = adds n p rest
+followed n (Break u) p rest = p
+
+-- the lines of `all`, with what follows them unless they break off
+pub record Written (a b : Lines) (all : List Placed → List Placed) (flow : ControlFlow (Unit {0}) (Unit {0})) : Type 0 where
+  pub lent : b.out.ghost_name ≡ a.out.ghost_name
+  pub same : length b.out.now ≡ length a.out.now
+  pub is : (rest : List Placed) → adds (length a.out.now) (part_of a) (all rest) ≡ followed (length a.out.now) flow (part_of b) rest
 
 -- ---- items as words
 
--- the line of an item's four words
-abbrev pub words_line : ℕ → (offset depth tag count : ℕ) → Placed
-words_line unit offset depth tag count = put (place_in unit offset (twos 64 depth)) (item_text offset (twos 64 depth) tag count)
+-- the line of an item: its offset, its depth in two's complement, its tag and its count of values
+abbrev pub words_line : ℕ → List ℕ → Placed
+words_line unit w =
+    let depth = twos 64 (get_or w 1 0) in
+    put (place_in unit (get_or w 0 0) depth) (item_text (get_or w 0 0) depth (get_or w 2 0) (get_or w 3 0))
 
--- the lines of n items
-abbrev pub words_lines : ℕ → ℕ → List ℕ → List Placed
-words_lines unit zero l = []
-words_lines unit (suc n) l = words_line unit (get_or l 0 0) (get_or l 1 0) (get_or l 2 0) (get_or l 3 0) ∷ words_lines unit n (drop 4 l)
-
--- the words of n items, whose tags have 16 bits
-pub record Items (n : ℕ) (l : List ℕ) : Type 0 where
-  pub there : n * 4 ≤ length l
-  pub small : (i : ℕ) → i * 4 + 4 ≤ n * 4 → get_or l (i * 4 + 2) 0 ≤ 65535
+-- items whose tags have 16 bits
+abbrev pub Items : List (List ℕ) → Type 0
+Items items = All (λ w. get_or w 2 0 ≤ 65535) items
 
 -- ---- units
 
@@ -99,3 +86,12 @@ pub record Fit (count : ℕ) (h : UnitHeader) : Type 0 where
   pub short : count ≤ max_section
   pub there : h.offset + unit_end h ≤ count
   pub header : size_of_header h ≤ unit_end h
+
+abbrev pub shelf_of : code_shelf.Shelf → Shelf
+shelf_of x = record { abbrevs = x.abbrevs.now; info = x.info.now; rows = length x.rows.now; specs = length x.specs.now }
+
+-- the same sections, and as many words in the same slices
+pub record Lent (x y : code_shelf.Shelf) : Type 0 where
+  pub shelf : shelf_of y ≡ shelf_of x
+  pub rows : y.rows.ghost_name ≡ x.rows.ghost_name
+  pub specs : y.specs.ghost_name ≡ x.specs.ghost_name

@@ -1,62 +1,63 @@
 // The input of `shelflist`: two sections, each after its count.
 
-ghost use Rattle.std.specs.Prelude.{◌≡◌};
+ghost use Rattle.std.specs.Prelude.{◌≡◌, length, IfOk};
 ghost use Rattle.listing.specs.Input.{section_at, input_of};
-ghost use Rattle.listing.specs.InputViews.{view_section, view_input};
+ghost use Rattle.listing.specs.declared.input.InputError.TheVariants.{Short};
+ghost use Rattle.listing.specs.InputViews.{view_section, view_input, Within};
 
-use reader::answer::{Place, Word};
 use reader::endianity::RunTimeEndian;
+use reader::error::Error;
 use reader::fields::skip;
 use reader::words::read_u32;
+use std::ops::Range;
 
 // The bytes of a section that are taken at most.
 pub const MOST: u64 = 32768;
 
-#[derive(Clone, Copy)]
-pub enum Section {
-    // start and end
-    Lies(usize, usize),
-    TooLong,
-    Short,
+// Why an input has no two sections.
+#[derive(Clone, Copy, Debug, PartialEq, Eq)]
+pub enum InputError {
+    TooLong, // a count above `MOST`
+    Short, // fewer bytes than counted
 }
 
-#[derive(Clone, Copy)]
-pub enum Input {
-    // start and end of the first section, then of the second
-    Both(usize, usize, usize, usize),
-    TooLong,
-    Short,
+// `read_u32` and `skip` refuse for want of bytes alone.
+impl From<Error> for InputError {
+    ghost from_gives = { λ _ e. e ≡ Short };
+
+    fn from(_error: Error) -> InputError {
+        InputError::Short
+    }
+}
+
+// Where the sections lie.
+#[derive(Clone, Debug, PartialEq, Eq, Drop)]
+pub struct Input {
+    pub abbrevs: Range<usize>,
+    pub info: Range<usize>,
 }
 
 // A section after its count.
-pub fn section_at(input: &[u8], at: usize) -> Section
-    ensures { view_section result ≡ section_at input.now at }
+#[tactic(auto, using(reader::proofs::FieldLaws::skip_in), unfolding(crate::specs::Input::section_at))]
+pub fn section_at(input: &[u8], at: usize) -> Result<Range<usize>, InputError>
+    ensures lies { view_section result ≡ section_at input.now at }
+    ensures inside { IfOk result (Within input.now) }
 {
-    match read_u32(input, at, RunTimeEndian::Little) {
-        Word::Got(count, next) => {
-            if MOST < count {
-                return Section::TooLong;
-            }
-            match skip(input, next, count) {
-                Place::At(end) => Section::Lies(next, end),
-                Place::Refused(_) => Section::Short,
-            }
-        }
-        Word::Refused(_) => Section::Short,
+    let (count, start) = read_u32(input, at, RunTimeEndian::Little)?;
+    if MOST < count {
+        return Err(InputError::TooLong);
     }
+    let end = skip(input, start, count)?;
+    Ok(start..end)
 }
 
 // Both sections, judged in the order of the bytes.
-pub fn sections(input: &[u8]) -> Input
-    ensures { view_input result ≡ input_of input.now }
+#[tactic(auto, unfolding(crate::specs::Input::input_of))]
+pub fn sections(input: &[u8]) -> Result<Input, InputError>
+    ensures lie { view_input result ≡ input_of input.now }
+    ensures inside { IfOk result (λ x. Within input.now x.abbrevs × Within input.now x.info) }
 {
-    match section_at(input, 0) {
-        Section::Lies(start, end) => match section_at(input, end) {
-            Section::Lies(from, to) => Input::Both(start, end, from, to),
-            Section::TooLong => Input::TooLong,
-            Section::Short => Input::Short,
-        },
-        Section::TooLong => Input::TooLong,
-        Section::Short => Input::Short,
-    }
+    let abbrevs = section_at(input, 0)?;
+    let info = section_at(input, abbrevs.end)?;
+    Ok(Input { abbrevs, info })
 }

@@ -4,6 +4,6 @@
 
 pub mod input; // the two sections out of an input
 pub mod list; // the listing of two sections
-mod piece; // lines held in a piece
+mod lines; // lines held in a lent buffer
 pub mod place; // where a listing can go on
 mod text; // numbers and words written

@@ -1,56 +1,48 @@
 // The lines of a listing, written into a lent buffer.
 
-ghost use Rattle.std.specs.Prelude.{◌≡◌, ◌+◌, ◌^◌, ◌≤◌, ◌<◌, pos, length};
+ghost use Rattle.std.specs.Prelude.{◌≡◌, ◌≤◌, length};
 ghost use Rattle.reader.specs.Sizes.{max_section};
+ghost use Rattle.reader.specs.Views.{view};
 ghost use Rattle.abbrev.specs.Table.{entry_limit};
 ghost use Rattle.entries.specs.Steps.{KeptRaw};
-ghost use Rattle.entries.specs.Views.{view_opened};
 ghost use Rattle.listing.specs.Listed.{ListedAs};
-ghost use Rattle.listing.specs.Listing.{place_in, item_lines, part_lines, state_at, unit_entries, unit_all, unit_lines, inner_lines, listing_from};
-ghost use Rattle.listing.specs.Written.{Held, Added, Written, refusal, Fit};
+ghost use Rattle.unit.specs.Range.{Handed};
+ghost use Rattle.unit.specs.Parse.{debug_info};
+ghost use Rattle.unit.specs.Units.{next_unit};
+ghost use Rattle.unit.specs.Views.{view_next};
+ghost use Rattle.reader.specs.declared.endianity.RunTimeEndian.TheVariants.{Little};
+ghost use Rattle.listing.specs.Listing.{entries_in, item_lines, part_lines, state_at, unit_entries, unit_all, unit_lines, inner_lines, listing_from};
+ghost use Rattle.listing.specs.Written.{Written, Fit, Lent, shelf_of};
 
-use super::piece::Piece;
+use super::lines::Lines;
 use super::place::ListingPlace;
 use super::text::Line;
 use abbrev::rows::wipe;
-use abbrev::table::Abbreviations;
 use entries::flat::pass_entries;
-use entries::raw::{EntriesRaw, Opened, Outcome};
+use entries::raw::EntriesRaw;
 use reader::endianity::RunTimeEndian;
 use reader::error::Error;
-use reader::fill::clear_bytes;
+use reader::fill::fill;
+use std::ops::ControlFlow;
 use unit::header::UnitHeader;
-use unit::units::{DebugInfoUnitHeadersIter, NextUnit};
+use unit::parse::SectionId;
+use unit::units::{Next, UnitHeadersIter};
 
-// A piece, and whether nothing follows in it: after a refusal, or where it is full.
-#[derive(Clone, Copy)]
-pub struct Wrote {
-    pub piece: Piece,
-    pub stopped: bool,
+// What `list` wrote: how many bytes and lines, and where the first of the lines behind them stands.
+#[derive(Clone, Copy, Debug, PartialEq, Eq)]
+pub struct Listed {
+    pub bytes: usize,
+    pub lines: usize,
+    pub next: Option<ListingPlace>,
 }
 
-// A refusal is the last line.
-fn stop(out: &mut [u8], piece: Piece, place: ListingPlace, number: u64) -> Wrote
-    requires { Held (length out.old) piece }
-    ensures { Written out.old out.new piece (refusal place number) result }
-{
-    let last = piece.add(out, Line::Refused(number), place);
-    Wrote {
-        piece: last,
-        stopped: true,
-    }
-}
-
-// Where the item stands that is read next.
-fn place_at(unit: usize, raw: EntriesRaw) -> ListingPlace
-    requires { raw.start + raw.position < 2 ^ 64 }
-    ensures { result ≡ place_in unit (raw.start + raw.position) raw.depth }
-{
-    ListingPlace {
-        unit,
-        offset: raw.start + raw.position,
-        depth: raw.depth,
-    }
+// Two sections, and the words lent for a table.
+#[derive(Drop)]
+struct Shelf<'a> {
+    abbrevs: &'a [u8],
+    info: &'a [u8],
+    rows: &'a mut [u64],
+    specs: &'a mut [u64],
 }
 
 // A line for each item that is left, of up to 256 passed in a call.
@@ -60,241 +52,177 @@ fn list_items(
     bytes: &[u8],
     rows: &[u64],
     specs: &[u64],
-    out: &mut [u8],
-    piece: Piece,
-) -> Wrote
-    requires kept_raw { KeptRaw (length bytes.now) raw }
-    requires held { Held (length out.old) piece }
-    ensures { Written out.old out.new piece (item_lines entry_limit.most unit raw bytes.now rows.now specs.now) result }
+    lines: &mut Lines<'_>,
+) -> ControlFlow<()>
+    requires { KeptRaw (length bytes.now) raw }
+    ensures { Written lines.old lines.new (item_lines entry_limit.most unit raw bytes.now rows.now specs.now) result }
 {
     let mut words = [0u64; 1024];
     let mut here = raw;
-    let mut held = piece;
     while here.position < bytes.len() {
-        if held.full {
-            return Wrote {
-                piece: held,
-                stopped: true,
-            };
-        }
         let passed = pass_entries(here, bytes, rows, specs, &mut words);
-        let count = passed.count;
-        let answer = passed.answer;
+        let (items, _) = words.as_chunks::<4>();
+        lines.add_items(unit, &items[..passed.count])?;
         let after = passed.raw;
-        held = held.add_items(out, unit, &words, count);
-        match answer {
-            Outcome::Done => {
-                here = after;
-            }
-            Outcome::Refused(e) => {
-                let place = place_at(unit, after);
-                return stop(out, held, place, e.number());
+        match passed.answer {
+            Ok(()) => here = after,
+            Err(error) => {
+                let place = ListingPlace {
+                    unit,
+                    offset: after.start + after.position,
+                    depth: after.depth,
+                };
+                return lines.add_last(Line::Refused(error), place);
             }
         }
     }
-    Wrote {
-        piece: held,
-        stopped: held.full,
-    }
+    ControlFlow::Continue(())
 }
 
 // The state at a place in a unit.
-fn state_at(header: UnitHeader, bytes: &[u8], place: ListingPlace) -> Opened
+#[tactic(auto, unfolding(crate::specs::Listing::state_at))]
+fn state_at(header: UnitHeader, bytes: &[u8], place: ListingPlace) -> Result<EntriesRaw, Error>
     requires { length bytes.now ≤ max_section }
-    ensures { view_opened result ≡ state_at header bytes.now place }
+    ensures { view result ≡ state_at header bytes.now place }
 {
-    let start = header.root_offset();
-    let offset = place.offset;
-    let encoding = header.encoding;
-    if offset < start {
-        return Opened::Refused(Error::SizeLimit);
+    let first = EntriesRaw::at_start(header, RunTimeEndian::Little);
+    if place.offset < first.start {
+        return Err(Error::SizeLimit);
     }
     let raw = EntriesRaw {
-        start,
-        position: offset - start,
+        position: place.offset - first.start,
         depth: place.depth,
-        encoding,
-        endian: RunTimeEndian::Little,
+        ..first
     };
     if raw.keeps_sizes(bytes.len()) {
-        return Opened::Got(raw);
-    }
-    Opened::Refused(Error::SizeLimit)
-}
-
-// A unit's entries, out of their bytes.
-fn list_part(
-    header: UnitHeader,
-    place: ListingPlace,
-    raw: EntriesRaw,
-    bytes: &[u8],
-    abbrevs: &[u8],
-    rows: &mut [u64],
-    specs: &mut [u64],
-    out: &mut [u8],
-    piece: Piece,
-) -> Wrote
-    requires kept_raw { KeptRaw (length bytes.now) raw }
-    requires held { Held (length out.old) piece }
-    ensures { Written out.old out.new piece (part_lines abbrevs.now (length rows.old) (length specs.old) header bytes.now place raw) result }
-{
-    if bytes.len() == 0 {
-        return Wrote {
-            piece,
-            stopped: false,
-        };
-    }
-    match header.abbreviations(abbrevs, rows, specs) {
-        Abbreviations::Got(_) => list_items(raw, place.unit, bytes, rows, specs, out, piece),
-        Abbreviations::Refused(e) => stop(out, piece, place, e.number()),
+        Ok(raw)
+    } else {
+        Err(Error::SizeLimit)
     }
 }
 
-// A unit's entries from a place on, out of its section.
-fn list_unit(
-    header: UnitHeader,
-    place: ListingPlace,
-    info: &[u8],
-    abbrevs: &[u8],
-    rows: &mut [u64],
-    specs: &mut [u64],
-    out: &mut [u8],
-    piece: Piece,
-) -> Wrote
-    requires fit { Fit (length info.now) header }
-    requires held { Held (length out.old) piece }
-    ensures { Written out.old out.new piece (unit_entries (record { abbrevs = abbrevs.now; info = info.now; rows = length rows.old; specs = length specs.old }) header place) result }
+// The bytes of a unit's entries, out of its section.
+fn entries_in(header: UnitHeader, info: &[u8]) -> Result<&[u8], Error>
+    ensures { Handed (entries_in header info.now) result }
 {
-    let mut refusal: u64 = 0;
-    let unit = header.bytes(info, &mut refusal);
-    let bytes = header.entries_buf(unit, &mut refusal);
-    match state_at(header, bytes, place) {
-        Opened::Got(raw) => list_part(header, place, raw, bytes, abbrevs, rows, specs, out, piece),
-        Opened::Refused(e) => stop(out, piece, place, e.number()),
-    }
+    header.entries_buf(header.bytes(info)?)
 }
 
-// A unit: its line, then its entries.
-fn list_one(
-    header: UnitHeader,
-    at: usize,
-    info: &[u8],
-    abbrevs: &[u8],
-    rows: &mut [u64],
-    specs: &mut [u64],
-    out: &mut [u8],
-    piece: Piece,
-) -> Wrote
-    requires fit { Fit (length info.now) header }
-    requires held { Held (length out.old) piece }
-    ensures { Written out.old out.new piece (unit_all (record { abbrevs = abbrevs.now; info = info.now; rows = length rows.old; specs = length specs.old }) at header) result }
+// The unit of .debug_info at an offset, and the list behind it.
+fn unit_at(info: &[u8], offset: usize) -> Next
+    ensures { view_next result ≡ next_unit debug_info info.now offset Little }
 {
-    let offset = header.offset();
-    let version = header.version();
-    let format = header.format();
-    let width = header.address_size();
-    let bits = 8 * (format.word_size() as u64);
-    let own = unit_place(at, 0);
-    let first = piece.add(out, Line::Unit(offset, version, bits, width), own);
-    if first.full {
-        return Wrote {
-            piece: first,
-            stopped: true,
-        };
-    }
-    let root = unit_place(at, header.root_offset());
-    list_unit(header, root, info, abbrevs, rows, specs, out, first)
-}
-
-// A place at depth 0.
-fn unit_place(unit: usize, offset: usize) -> ListingPlace
-    ensures { result ≡ place_in unit offset (pos 0) }
-{
-    ListingPlace {
-        unit,
+    let units = UnitHeadersIter {
+        id: SectionId::DebugInfo,
         offset,
-        depth: 0,
-    }
+    };
+    units.next(info, RunTimeEndian::Little)
 }
 
-// All units from an offset of their section on.
-fn list_units(
-    at: usize,
-    abbrevs: &[u8],
-    info: &[u8],
-    rows: &mut [u64],
-    specs: &mut [u64],
-    out: &mut [u8],
-    piece: Piece,
-) -> Piece
-    requires { Held (length out.old) piece }
-    ensures { Added out.old out.new piece (unit_lines (record { abbrevs = abbrevs.now; info = info.now; rows = length rows.old; specs = length specs.old }) at) result }
-{
-    let mut units = DebugInfoUnitHeadersIter { offset: at };
-    let mut held = piece;
-    loop {
-        let here = units.offset;
-        let next = units.next(info, RunTimeEndian::Little);
-        let unit = next.unit;
-        let after = next.units;
-        match unit {
-            NextUnit::Header(header) => {
-                let wrote = list_one(header, here, info, abbrevs, rows, specs, out, held);
-                if wrote.stopped {
-                    return wrote.piece;
-                }
-                held = wrote.piece;
-                units = after;
-            }
-            NextUnit::NoMore => {
-                return held.add(out, Line::End, unit_place(here, 0));
-            }
-            NextUnit::Refused(e) => {
-                return held.add(out, Line::Refused(e.number()), unit_place(here, 0));
-            }
+impl Shelf<'_> {
+    // A unit's entries, out of their bytes.
+    fn list_part(
+        &mut self,
+        header: UnitHeader,
+        place: ListingPlace,
+        raw: EntriesRaw,
+        bytes: &[u8],
+        lines: &mut Lines<'_>,
+    ) -> ControlFlow<()>
+        requires { KeptRaw (length bytes.now) raw }
+        ensures lent { Lent self.old self.new }
+        ensures written { Written lines.old lines.new (part_lines (shelf_of self.old) header bytes.now place raw) result }
+    {
+        if bytes.is_empty() {
+            return ControlFlow::Continue(());
+        }
+        // with the fields in the call there is no automatic proof
+        let abbrevs = self.abbrevs;
+        let rows = &mut *self.rows;
+        let specs = &mut *self.specs;
+        match header.abbreviations(abbrevs, rows, specs) {
+            Ok(_) => list_items(raw, place.unit, bytes, rows, specs, lines),
+            Err(error) => lines.add_last(Line::Refused(error), place),
         }
     }
-}
 
-// From the middle of a unit on.
-fn list_inner(
-    place: ListingPlace,
-    abbrevs: &[u8],
-    info: &[u8],
-    rows: &mut [u64],
-    specs: &mut [u64],
-    out: &mut [u8],
-    piece: Piece,
-) -> Piece
-    requires { Held (length out.old) piece }
-    ensures { Added out.old out.new piece (inner_lines (record { abbrevs = abbrevs.now; info = info.now; rows = length rows.old; specs = length specs.old }) place) result }
-{
-    let units = DebugInfoUnitHeadersIter { offset: place.unit };
-    let next = units.next(info, RunTimeEndian::Little);
-    let unit = next.unit;
-    let after = next.units;
-    match unit {
-        NextUnit::Header(header) => {
-            let wrote = list_unit(header, place, info, abbrevs, rows, specs, out, piece);
-            if wrote.stopped {
-                return wrote.piece;
-            }
-            let held = wrote.piece;
-            list_units(after.offset, abbrevs, info, rows, specs, out, held)
+    // A unit's entries from a place on.
+    fn list_entries(
+        &mut self,
+        header: UnitHeader,
+        place: ListingPlace,
+        lines: &mut Lines<'_>,
+    ) -> ControlFlow<()>
+        requires { Fit (length self.old.info.now) header }
+        ensures lent { Lent self.old self.new }
+        ensures written { Written lines.old lines.new (unit_entries (shelf_of self.old) header place) result }
+    {
+        match entries_in(header, self.info) {
+            Ok(bytes) => match state_at(header, bytes, place) {
+                Ok(raw) => self.list_part(header, place, raw, bytes, lines),
+                Err(error) => lines.add_last(Line::Refused(error), place),
+            },
+            Err(error) => lines.add_last(Line::Refused(error), place),
         }
-        NextUnit::NoMore => piece.add(out, Line::Refused(1), place),
-        NextUnit::Refused(e) => piece.add(out, Line::Refused(e.number()), place),
     }
-}
 
-// What a piece has: how many bytes and lines, whether there are lines behind it, and where the first of
-// these stands, zeros where there is none.
-#[derive(Clone, Copy)]
-pub struct Listed {
-    pub bytes: usize,
-    pub lines: usize,
-    pub more: bool,
-    pub place: ListingPlace,
+    // A unit: its line, then its entries.
+    fn list_unit(&mut self, header: UnitHeader, at: usize, lines: &mut Lines<'_>) -> ControlFlow<()>
+        requires { Fit (length self.old.info.now) header }
+        ensures lent { Lent self.old self.new }
+        ensures written { Written lines.old lines.new (unit_all (shelf_of self.old) at header) result }
+    {
+        lines.add(Line::Unit(header), ListingPlace::at_root(at, 0))?;
+        let root = ListingPlace::at_root(at, header.root_offset());
+        self.list_entries(header, root, lines)
+    }
+
+    // All units from an offset of their section on.
+    fn list_units(&mut self, at: usize, lines: &mut Lines<'_>) -> ControlFlow<()>
+        ensures lent { Lent self.old self.new }
+        ensures written { Written lines.old lines.new (λ _. unit_lines (shelf_of self.old) at) result }
+    {
+        let mut offset = at;
+        loop {
+            let here = ListingPlace::at_root(offset, 0);
+            let next = unit_at(self.info, offset);
+            match next.unit {
+                Ok(Some(header)) => self.list_unit(header, here.unit, lines)?,
+                Ok(None) => return lines.add_last(Line::End, here),
+                Err(error) => return lines.add_last(Line::Refused(error), here),
+            }
+            offset = next.units.offset;
+        }
+    }
+
+    // From the middle of a unit on.
+    fn list_inner(&mut self, place: ListingPlace, lines: &mut Lines<'_>) -> ControlFlow<()>
+        ensures lent { Lent self.old self.new }
+        ensures written { Written lines.old lines.new (λ _. inner_lines (shelf_of self.old) place) result }
+    {
+        let next = unit_at(self.info, place.unit);
+        match next.unit {
+            Ok(Some(header)) => {
+                self.list_entries(header, place, lines)?;
+                self.list_units(next.units.offset, lines)
+            }
+            Ok(None) => lines.add_last(Line::Refused(Error::SizeLimit), place),
+            Err(error) => lines.add_last(Line::Refused(error), place),
+        }
+    }
+
+    // From a place on.
+    #[tactic(auto, unfolding(crate::specs::Listing::listing_from))]
+    fn list_from(&mut self, place: ListingPlace, lines: &mut Lines<'_>) -> ControlFlow<()>
+        ensures lent { Lent self.old self.new }
+        ensures written { Written lines.old lines.new (λ _. listing_from (shelf_of self.old) place) result }
+    {
+        if place.offset == 0 {
+            self.list_units(place.unit, lines)
+        } else {
+            self.list_inner(place, lines)
+        }
+    }
 }
 
 // The lines of the listing of two sections from a place on that `out` has room for; a line is begun where
@@ -310,39 +238,31 @@ pub fn list(
 ) -> Listed
     ensures { ListedAs abbrevs.now info.now rows.old specs.old place out.old rows.new specs.new out.new result }
 {
-    let none = Piece {
-        lines: 0,
-        end: 0,
-        full: false,
-        place: unit_place(0, 0),
+    let mut shelf = Shelf {
+        abbrevs,
+        info,
+        rows,
+        specs,
     };
-    let piece = list_from(place, abbrevs, info, rows, specs, out, none);
+    let mut lines = Lines {
+        out,
+        count: 0,
+        end: 0,
+        next: None,
+    };
+    let _ = shelf.list_from(place, &mut lines);
+    let Shelf { rows, specs, .. } = shelf;
     wipe(rows, specs);
-    clear_bytes(out, piece.end);
-    let first = piece.place;
+    let Lines {
+        out,
+        count,
+        end,
+        next,
+    } = lines;
+    fill(out, end, 0);
     Listed {
-        bytes: piece.end,
-        lines: piece.lines,
-        more: piece.full,
-        place: first,
+        bytes: end,
+        lines: count,
+        next,
     }
-}
-
-// From a place on.
-fn list_from(
-    place: ListingPlace,
-    abbrevs: &[u8],
-    info: &[u8],
-    rows: &mut [u64],
-    specs: &mut [u64],
-    out: &mut [u8],
-    piece: Piece,
-) -> Piece
-    requires { Held (length out.old) piece }
-    ensures { Added out.old out.new piece (listing_from (record { abbrevs = abbrevs.now; info = info.now; rows = length rows.old; specs = length specs.old }) place) result }
-{
-    if place.offset == 0 {
-        return list_units(place.unit, abbrevs, info, rows, specs, out, piece);
-    }
-    list_inner(place, abbrevs, info, rows, specs, out, piece)
 }

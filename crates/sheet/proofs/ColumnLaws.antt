@@ -5,14 +5,14 @@ use Prim.Native.Nat.{ℕ, zero, suc, ◌+◌, ◌-◌, ◌/◌, ◌%◌, ◌^◌
 use lib.Dec.{ltb}
 use native.Mathlib.Omega.{arith}
 use native.Mathlib.Nat.{mod-eq_of_lt}
-use native.Mathlib.Numerals.{add-one}
 use lib.IntN.{ℤ, pos, negsuc, nat_abs}
 use lib.ListN.{length, take, drop, set, get_or, replicate, length-append, length-take, length-drop, length-set, length-replicate}
-use lib.Seq.{take_at, take_all, take-suc, take-append-le, drop-append-add, drop-drop, take-take, set-append_seam, drop-cons}
+use lib.Seq.{take_at, take-append-le, drop-append-add, drop-drop, take-take, set-append_seam, drop-cons}
 use Rattle.std.proofs.lemmas.List.{drop_at, take-append-drop}
 use Rattle.reader.proofs.Answers.{cond_by}
 use Rattle.listing.specs.Text.{digit, numeral, signed_numeral}
-use Rattle.listing.proofs.TextLaws.{numeral_step, numeral_most, numeral_low, numeral_high, high_length}
+use Rattle.listing.proofs.TextLaws.{numeral_step, numeral_most, numeral_low, numeral_high, low_length, high_length, signed_low, signed_high}
+use mir.Facts.{to_z-of_z}
 use Rattle.sheet.specs.Sheet.{padded}
 use Rattle.sheet.specs.Steps.{splice}
 
@@ -100,10 +100,10 @@ set_is l n x h = ap (λ (y : List ℕ). set y n x) (sym (splice_none n l)) ∙ s
 
 -- ---- columns
 
--- one more of a character
-pub replicate_more : (n x : ℕ) → replicate (suc n) x ≡ replicate n x ++ (x ∷ [])
+-- one more, behind the others
+pub replicate_more : {A : Type 0} (n : ℕ) (x : A) → replicate (suc n) x ≡ replicate n x ++ (x ∷ [])
 replicate_more zero x = refl
-replicate_more (suc n) x = ap (λ (l : List ℕ). x ∷ l) (replicate_more n x)
+replicate_more {A} (suc n) x = ap (λ (l : List A). x ∷ l) (replicate_more n x)
 
 module _ (c : ℕ) where
   pub padded_length : (w : ℕ) (t : List ℕ) → length t ≤ w → length (padded c w t) ≡ w
@@ -185,67 +185,16 @@ field_signed l at n w first h k e =
     ∙ splice_at at l r t 32 45 (first - 1) f (omega arith)
     ∙ ap (λ (x : List ℕ). splice at x l) (sym (padded_longer 32 w t 45))
 
--- ---- loops that store
+-- ---- what fits its columns
 
--- the first i bytes of a text are stored
-pub record Stored (l₀ : List ℕ) (at : ℕ) (t : List ℕ) (l : List ℕ) (i : ℕ) : Type 0 where
-  pub until : i ≤ length t
-  pub room : at + length t ≤ length l₀
-  pub same : length l ≡ length l₀
-  pub is : l ≡ splice at (take i t) l₀
+pub ten_digits : (n : ℕ) → n < 10 ^ 10 → length (numeral 10 n) ≤ 10
+ten_digits n h = numeral_most 10 9 n (omega arith) (omega arith)
 
-module _ {l₀ t : List ℕ} {at : ℕ} where
-  pub stored_begun : at + length t ≤ length l₀ → Stored l₀ at t l₀ 0
-  stored_begun h = record { until = omega arith; room = h; same = refl; is = sym (splice_none at l₀) }
+-- how many digits a number has
+pub ruleset lengths = (numeral_some, low_length, high_length, length-set)
 
-  module _ {l : List ℕ} {i : ℕ} (s : Stored l₀ at t l i) where
-    pub stored_further : i < length t → Stored l₀ at t (set l (at + i) (get_or t i 0)) (i + 1)
-    stored_further h =
-        let e : at + i ≡ at + length (take i t) = omega (arith, length_front i t s.until) in
-        record {
-          until = omega arith;
-          room = s.room;
-          same = simp length-set s.same;
-          is = ap (λ (x : List ℕ). set x (at + i) (get_or t i 0)) s.is ∙ splice_set at l₀ (take i t) (get_or t i 0) (at + i) e (omega (arith, s.room)) ∙ ap (λ (x : List ℕ). splice at x l₀) (rw (add-one i) (sym (take-suc t i 0 h)));
-        }
-
-    pub stored_ended : length t ≤ i → l ≡ splice at t l₀
-    stored_ended h = s.is ∙ ap (λ (x : List ℕ). splice at x l₀) (take_all i t h)
-
--- a byte is stored from a place on, up to another
-pub record Padding (l₀ : List ℕ) (from to b : ℕ) (l : List ℕ) (i : ℕ) : Type 0 where
-  pub above : from ≤ i
-  pub until : i ≤ to
-  pub room : to ≤ length l₀
-  pub same : length l ≡ length l₀
-  pub is : l ≡ splice from (replicate (i - from) b) l₀
-
-module _ {l₀ : List ℕ} {from to b : ℕ} where
-  pub padding_begun : from ≤ to → to ≤ length l₀ → Padding l₀ from to b l₀ from
-  padding_begun h k =
-      record { above = omega arith; until = h; room = k; same = refl; is = sym (splice_none from l₀) ∙ ap (λ (n : ℕ). splice from (replicate n b) l₀) none }
-    where
-      none : 0 ≡ from - from
-      none = omega arith
-
-  module _ {l : List ℕ} {i : ℕ} (s : Padding l₀ from to b l i) where
-    pub padding_further : i < to → Padding l₀ from to b (set l i b) (i + 1)
-    padding_further h =
-        let e : i ≡ from + length (replicate (i - from) b) = omega (arith, s.above, length-replicate (i - from) b) in
-        let n : suc (i - from) ≡ i + 1 - from = omega (arith, s.above) in
-        record {
-          above = omega (arith, s.above);
-          until = omega arith;
-          room = s.room;
-          same = simp length-set s.same;
-          is = ap (λ (x : List ℕ). set x i b) s.is ∙ splice_set from l₀ (replicate (i - from) b) b i e (omega (arith, s.room)) ∙ ap (λ (x : List ℕ). splice from x l₀) (sym (replicate_more (i - from) b) ∙ ap (λ (m : ℕ). replicate m b) n);
-        }
-
-    pub padding_ended : to ≤ i → l ≡ splice from (replicate (to - from) b) l₀
-    padding_ended h = s.is ∙ ap (λ (n : ℕ). splice from (replicate (n - from) b) l₀) e
-      where
-        e : i ≡ to
-        e = omega (arith, s.until)
+-- a number and its sign
+pub ruleset signed = (ten_digits, signed_low, signed_high, to_z-of_z)
 
 -- a number below 10^10 has at most ten digits, and its sign has a column too
 pub signed_short : (z : ℤ) → nat_abs z < 10 ^ 10 → length (signed_numeral z) ≤ 11

@@ -12,7 +12,7 @@ use Rattle.listing.specs.Text.{ascii, numeral, signed_numeral}
 use Rattle.listing.proofs.TextLaws.{numeral_most}
 use Rattle.sheet.specs.Sheet.{padded, right, tag_text, sheet_line, blank_line, in_bytes, page_size}
 use Rattle.sheet.specs.Steps.{splice, Fair}
-use Rattle.sheet.proofs.ColumnLaws.{padded_length, splice_none, splice_then, signed_short}
+use Rattle.sheet.proofs.ColumnLaws.{padded_length, replicate_more, splice_then, signed_short}
 
 -- a text stored behind one that is stored
 pub stored_then : (at : ℕ) (l : List ℕ) {x y : List ℕ} (t u : List ℕ) (n : ℕ) → x ≡ splice at t l → n ≡ at + length t → n + length u ≤ length l → y ≡ splice n u x → y ≡ splice at (t ++ u) l
@@ -121,40 +121,18 @@ pub wide_blank : (n : ℕ) → Wide (replicate n blank_line)
 wide_blank zero = tt
 wide_blank (suc n) = (refl, wide_blank n)
 
-pub blank_more : (n : ℕ) → replicate (suc n) blank_line ≡ replicate n blank_line ++ (blank_line ∷ [])
-blank_more zero = refl
-blank_more (suc n) = ap (λ (ls : List (List ℕ)). blank_line ∷ ls) (blank_more n)
-
 -- unused lines are stored up to the i-th
 pub record Blanked (l₀ : List ℕ) (line : ℕ) (l : List ℕ) (i : ℕ) : Type 0 where
-  pub above : line ≤ i
-  pub until : i ≤ 60
-  pub room : page_size ≤ length l₀
   pub same : length l ≡ length l₀
   pub is : l ≡ splice (line * 33) (in_bytes (replicate (i - line) blank_line)) l₀
 
-module _ {l₀ : List ℕ} {line : ℕ} where
-  pub blanked_begun : line ≤ 60 → page_size ≤ length l₀ → Blanked l₀ line l₀ line
-  blanked_begun h k =
-      record { above = omega arith; until = h; room = k; same = refl; is = sym (splice_none (line * 33) l₀) ∙ ap (λ (n : ℕ). splice (line * 33) (in_bytes (replicate n blank_line)) l₀) none }
-    where
-      none : 0 ≡ line - line
-      none = omega arith
-
-  module _ {l : List ℕ} {i : ℕ} (s : Blanked l₀ line l i) where
-    pub blanked_further : {m : List ℕ} → i < 60 → length m ≡ length l → m ≡ splice (i * 33) (blank_line ++ ascii "\n") l → Blanked l₀ line m (i + 1)
-    blanked_further {m} h k e =
-        let n : suc (i - line) ≡ i + 1 - line = omega (arith, s.above) in
-        let ls = replicate (i - line) blank_line in
-        let a : length ls ≡ i - line = length-replicate (i - line) blank_line in
-        let b = bytes_length ls (wide_blank (i - line)) in
-        let f = stored_then (line * 33) l₀ (in_bytes ls) (blank_line ++ ascii "\n") (i * 33) s.is (omega (arith, s.above, a, b)) (omega (arith, s.room)) e in
-        let g : in_bytes ls ++ (blank_line ++ ascii "\n") ≡ in_bytes (replicate (i + 1 - line) blank_line) =
-        sym (bytes_append ls (blank_line ∷ [])) ∙ ap in_bytes (sym (blank_more (i - line))) ∙ ap (λ (n : ℕ). in_bytes (replicate n blank_line)) n in
-        record { above = omega (arith, s.above); until = omega arith; room = s.room; same = k ∙ s.same; is = f ∙ ap (λ (t : List ℕ). splice (line * 33) t l₀) g }
-
-    pub blanked_ended : 60 ≤ i → l ≡ splice (line * 33) (in_bytes (replicate (60 - line) blank_line)) l₀
-    blanked_ended h = s.is ∙ ap (λ (n : ℕ). splice (line * 33) (in_bytes (replicate (n - line) blank_line)) l₀) e
-      where
-        e : i ≡ 60
-        e = omega (arith, s.until)
+pub blanked_further : {l₀ l m : List ℕ} {line i : ℕ} → Blanked l₀ line l i → line ≤ i → i < 60 → page_size ≤ length l₀ → length m ≡ length l → m ≡ splice (i * 33) (blank_line ++ ascii "\n") l → Blanked l₀ line m (i + 1)
+blanked_further {l₀} {line = line} {i = i} s above h room k e =
+    let n : suc (i - line) ≡ i + 1 - line = omega arith in
+    let ls = replicate (i - line) blank_line in
+    let a : length ls ≡ i - line = length-replicate (i - line) blank_line in
+    let b = bytes_length ls (wide_blank (i - line)) in
+    let f = stored_then (line * 33) l₀ (in_bytes ls) (blank_line ++ ascii "\n") (i * 33) s.is (omega (arith, a, b)) (omega arith) e in
+    let g : in_bytes ls ++ (blank_line ++ ascii "\n") ≡ in_bytes (replicate (i + 1 - line) blank_line) =
+    sym (bytes_append ls (blank_line ∷ [])) ∙ ap in_bytes (sym (replicate_more (i - line) blank_line)) ∙ ap (λ (j : ℕ). in_bytes (replicate j blank_line)) n in
+    record { same = k ∙ s.same; is = f ∙ ap (λ (t : List ℕ). splice (line * 33) t l₀) g }

@@ -11,7 +11,8 @@ use lib.Dec.{ltb}
 use lib.IntN.{ℤ, pos, negsuc, nat_abs}
 use lib.Signed.{mag}
 use lib.ListN.{length, take, drop, get_or, replicate, length-append, length-take, length-drop, length-replicate}
-use lib.Seq.{drop-append-add, drop-drop, take-nil, drop-nil, get_or-drop}
+use lib.Seq.{drop-append-add, drop-drop, drop-cons, take-nil, drop-nil}
+use native.Mathlib.Numerals.{add-one}
 use Rattle.reader.specs.Answer.{Answer, got, refused, and_then, if_some}
 use Rattle.reader.specs.Sizes.{max_section}
 use Rattle.reader.specs.Twos.{word, twos}
@@ -23,20 +24,24 @@ use Rattle.unit.specs.Range.{entries_buf}
 use Rattle.unit.specs.declared.header.UnitHeader.{UnitHeader}
 use Rattle.reader.specs.declared.endianity.RunTimeEndian.{RunTimeEndian}
 use Rattle.entries.specs.Flat.{Item, Stop, Reading, reading_from, all_of, unit_reading}
-use Rattle.entries.specs.Pass.{items_words, PassedItems, passed_items}
+use Rattle.entries.specs.Pass.{item_words, PassedItems, passed_items}
 use Rattle.entries.specs.Raw.{moved_to, source_of, start_of, unit_source, opened}
 use Rattle.entries.specs.Read.{after_entry}
-use Rattle.entries.specs.Views.{view_outcome, PassedAs}
+use Rattle.reader.specs.Views.{view}
+use Rattle.entries.specs.Views.{PassedAs}
 use Rattle.entries.specs.declared.flat.PassedEntries.{PassedEntries}
 use Rattle.entries.specs.declared.raw.EntriesRaw.{EntriesRaw}
 use Rattle.entries.proofs.FlatLaws.{Stands}
 use Rattle.entries.proofs.KeepLaws.{entry_few, part_in}
-use Rattle.entries.proofs.RunLaws.{behind, next_kept, reading, reading_none, words_length}
+use Rattle.entries.proofs.RunLaws.{behind, next_kept, reading, reading_none}
 use Rattle.entries.proofs.SeekLaws.{stands}
 use Rattle.listing.specs.Text.{ascii}
-use Rattle.listing.proofs.ListLaws.{starts, pass_start, pass_kept, pass_join, pass_further, pass_stop}
+use Rattle.listing.proofs.ListLaws.{starts, pass_start, pass_kept, pass_join, pass_further, pass_stop, passed, passed_is, passed_few}
+use Rattle.std.specs.List.{All, AllByRecursion}
+use Rattle.std.proofs.lemmas.List.{drop_all, length-map}
+use Rattle.std.proofs.lemmas.List.Elements.{All-map, All-weaker, All-from_recursion}
 use Rattle.sheet.specs.Sheet.{sheet_line, item_line, blank_line, on_page, filled, page_of, in_bytes, page_size, Shown, shown, sheet_reading}
-use Rattle.sheet.specs.Steps.{splice, Fair, placed, placed_all, placed_words, FairWords, first_on, lines_of, Opened, page_from}
+use Rattle.sheet.specs.Steps.{splice, Fair, placed, placed_all, words_line, placed_words, FairWords, first_on, lines_of, Opened, page_from}
 use Rattle.sheet.proofs.ColumnLaws.{splice_length, splice_none}
 use Rattle.sheet.proofs.LineLaws.{stored_then, line_length, Wide, bytes_length, bytes_append, bytes_more, wide_append, wide_blank}
 
@@ -46,8 +51,7 @@ abbrev pub FairItem : Item → Type 0
 FairItem i = Fair i.value.offset i.value.depth i.value.tag i.value.count
 
 abbrev pub AllFair : List Item → Type 0
-AllFair [] = Unit {0}
-AllFair (i ∷ l) = FairItem i × AllFair l
+AllFair l = AllByRecursion FairItem l
 
 pub fair_left : (l m : List Item) → AllFair (l ++ m) → AllFair l
 fair_left [] m h = tt
@@ -105,45 +109,19 @@ module _ (most : ℕ) (few : most < 100) (s rows specs : List ℕ) where
 
 -- ---- the words of items
 
-pub words_placed : (first k : ℕ) (l : List Item) (z p : List ℕ) → AllFair l → placed_words first k (length l) (items_words l ++ z) p ≡ placed_all first k l p
-words_placed first k [] z p h = refl
-words_placed first k (i ∷ l) z p h =
-    let d : twos 64 (word 64 i.value.depth) ≡ i.value.depth = twos_word 64 i.value.depth (omega arith) (mag_small i.value.depth h.0.depth_small) in
-    ap (λ (d : ℤ). placed_words first (k + 1) (length l) (items_words l ++ z) (placed first k (sheet_line i.value.offset d i.value.tag i.value.count) p)) d
-    ∙ words_placed first (k + 1) l z (placed first k (item_line i) p) h.1
+depth_back : (i : Item) → FairItem i → twos 64 (word 64 i.value.depth) ≡ i.value.depth
+depth_back i h = twos_word 64 i.value.depth (omega arith) (mag_small i.value.depth h.depth_small)
 
-fair_by : {a b c d e f g h : ℕ} → a ≡ e → b ≡ f → c ≡ g → d ≡ h → Fair a (twos 64 b) c d → Fair e (twos 64 f) g h
-fair_by p q r s x =
-    record {
-      offset_small = omega (arith, p, x.offset_small);
-      depth_small = subst (λ (n : ℕ). nat_abs (twos 64 n) < 10 ^ 10) q x.depth_small;
-      tag_small = omega (arith, r, x.tag_small);
-      count_small = omega (arith, s, x.count_small);
-      null_empty = λ y. sym s ∙ x.null_empty (r ∙ y);
-    }
+pub words_placed : (first k : ℕ) (l : List Item) (p : List ℕ) → AllFair l → placed_words first k (map item_words l) p ≡ placed_all first k l p
+words_placed first k [] p h = refl
+words_placed first k (i ∷ l) p h =
+    ap (λ (d : ℤ). placed_words first (k + 1) (map item_words l) (placed first k (sheet_line i.value.offset d i.value.tag i.value.count) p)) (depth_back i h.0)
+    ∙ words_placed first (k + 1) l (placed first k (item_line i) p) h.1
 
-words_fair : (l : List Item) (z : List ℕ) → AllFair l → (i : ℕ) → i < length l
-    → Fair (get_or (items_words l ++ z) (i * 4) 0) (twos 64 (get_or (items_words l ++ z) (i * 4 + 1) 0)) (get_or (items_words l ++ z) (i * 4 + 2) 0) (get_or (items_words l ++ z) (i * 4 + 3) 0)
-words_fair [] z h i k = absurd (omega arith)
-words_fair (x ∷ l) z h zero k =
-    subst (λ (d : ℤ). Fair x.value.offset d x.value.tag x.value.count) (sym (twos_word 64 x.value.depth (omega arith) (mag_small x.value.depth h.0.depth_small))) h.0
-words_fair (x ∷ l) z h (suc i) k =
-    let w : List ℕ = items_words (x ∷ l) ++ z in
-    let v : List ℕ = items_words l ++ z in
-    let a : get_or w (suc i * 4) 0 ≡ get_or v (i * 4) 0 = ap (λ (n : ℕ). get_or w n 0) first in
-    let b : get_or w (suc i * 4 + 1) 0 ≡ get_or v (i * 4 + 1) 0 = ap (λ (n : ℕ). get_or w n 0) (on 1) in
-    let c : get_or w (suc i * 4 + 2) 0 ≡ get_or v (i * 4 + 2) 0 = ap (λ (n : ℕ). get_or w n 0) (on 2) in
-    let d : get_or w (suc i * 4 + 3) 0 ≡ get_or v (i * 4 + 3) 0 = ap (λ (n : ℕ). get_or w n 0) (on 3) in
-    fair_by (sym a) (sym b) (sym c) (sym d) (words_fair l z h.1 i (omega arith))
-  where
-    first : suc i * 4 ≡ suc (suc (suc (suc (i * 4))))
-    first = omega arith
-
-    on : (j : ℕ) → suc i * 4 + j ≡ suc (suc (suc (suc (i * 4 + j))))
-    on j = omega arith
-
-pub fair_words : (l : List Item) (z : List ℕ) → AllFair l → FairWords (length l) (items_words l ++ z)
-fair_words l z h = record { there = omega (arith, length-append (items_words l) z, words_length l); fair = words_fair l z h }
+pub words_fair : (l : List Item) → AllFair l → All FairWords (map item_words l)
+words_fair l h =
+    All-map FairWords item_words l
+    (All-weaker FairItem (λ (i : Item). FairWords (item_words i)) (λ i f. subst (λ (d : ℤ). Fair i.value.offset d i.value.tag i.value.count) (sym (depth_back i f)) f) l (All-from_recursion FairItem l h))
 
 pub placed_append : (first k : ℕ) (l m : List Item) (p : List ℕ) → placed_all first k (l ++ m) p ≡ placed_all first (k + length l) m (placed_all first k l p)
 placed_append first k [] m p = ap (λ (n : ℕ). placed_all first n m p) e
@@ -306,11 +284,6 @@ module _ (first : ℕ) where
 
 -- ---- a page
 
-pub drop_far : (n : ℕ) (l : List Item) → length l ≤ n → drop n l ≡ []
-drop_far n [] h = drop-nil n
-drop_far zero (i ∷ l) h = absurd (omega arith)
-drop_far (suc n) (i ∷ l) h = drop_far n l (omega arith)
-
 -- the items of a page, by the number of its first
 pub window_page : (n : ℕ) (l : List Item) → length l ≤ max_section → window (first_on n) l ≡ on_page n l
 window_page n l h = by (ltb n 67108864) refl
@@ -319,7 +292,7 @@ window_page n l h = by (ltb n 67108864) refl
     by true e = rw e (ap (λ (m : ℕ). take 60 (drop m l)) (mul_comm n 60))
     by false e =
         let z = ltb-false n 67108864 e in
-        rw e (ap (take 60) (drop_far 4026531840 l (omega arith) ∙ sym (drop_far (60 * n) l (omega arith))))
+        rw e (ap (take 60) (drop_all 4026531840 l (omega arith) ∙ sym (drop_all (60 * n) l (omega arith))))
 
 window_length : (first : ℕ) (l : List Item) → length (window first l) ≡ lines_of first (length l)
 window_length first l = by (ltb (length l) first) refl (ltb (length l - first) 60) refl
@@ -342,16 +315,12 @@ fair_drop zero l h = h
 fair_drop (suc n) [] h = tt
 fair_drop (suc n) (i ∷ l) h = fair_drop n l h.1
 
-pub length_map : {A B : Type 0} (f : A → B) (l : List A) → length (map f l) ≡ length l
-length_map f [] = refl
-length_map f (a ∷ l) = ap suc (length_map f l)
-
 pub filled_wide : (l : List Item) → AllFair l → Wide (filled l)
 filled_wide l h = wide_append (map item_line l) (replicate (60 - length l) blank_line) (wide_lines l h) (wide_blank (60 - length l))
 
 pub filled_length : (l : List Item) → length l ≤ 60 → length (filled l) ≡ 60
 filled_length l h =
-    length-append (map item_line l) (replicate (60 - length l) blank_line) ∙ omega (arith, length_map item_line l, length-replicate (60 - length l) blank_line)
+    length-append (map item_line l) (replicate (60 - length l) blank_line) ∙ omega (arith, length-map l item_line, length-replicate (60 - length l) blank_line)
 
 filled_bytes : (l : List Item) → AllFair l → length l ≤ 60 → length (in_bytes (filled l)) ≡ page_size
 filled_bytes l h k = bytes_length (filled l) (filled_wide l h) ∙ omega (arith, filled_length l k)
@@ -372,7 +341,7 @@ page_filled n l p₀ p q h k r e f =
     let most = most_lines first l in
     let lines = map item_line w in
     let g = e ∙ all_placed first p₀ r l h in
-    let a : lines_of first (length l) * 33 ≡ 0 + length (in_bytes lines) = omega (arith, bytes_length lines (wide_lines w fair), length_map item_line w, len) in
+    let a : lines_of first (length l) * 33 ≡ 0 + length (in_bytes lines) = omega (arith, bytes_length lines (wide_lines w fair), length-map w item_line, len) in
     let blanks = replicate (60 - lines_of first (length l)) blank_line in
     let b : lines_of first (length l) * 33 + length (in_bytes blanks) ≤ length p₀ = omega (arith, bytes_length blanks (wide_blank (60 - lines_of first (length l))), length-replicate (60 - lines_of first (length l)) blank_line, len) in
     let c : in_bytes lines ++ in_bytes blanks ≡ in_bytes (filled w) = sym (bytes_append lines blanks) ∙ ap (λ (m : ℕ). in_bytes (lines ++ replicate (60 - m) blank_line)) (sym len) in
@@ -404,62 +373,21 @@ shown_refused m n k p = refl
 -- ---- the loop over words
 
 -- the first i items have their lines
-pub record Placing (first k count : ℕ) (w p₀ p : List ℕ) (i : ℕ) : Type 0 where
-  pub until : i ≤ count
+pub record Placing (first k : ℕ) (items : List (List ℕ)) (p₀ p : List ℕ) (i : ℕ) : Type 0 where
   pub same : length p ≡ length p₀
-  pub is : placed_words first k count w p₀ ≡ placed_words first (k + i) (count - i) (drop (i * 4) w) p
+  pub is : placed_words first k items p₀ ≡ placed_words first (k + i) (drop i items) p
 
-pub placing_begun : (first k count : ℕ) (w p : List ℕ) → Placing first k count w p p 0
-placing_begun first k count w p = record { until = omega arith; same = refl; is = ap (λ (n : ℕ). placed_words first n count w p) e ∙ ap (λ (n : ℕ). placed_words first (k + 0) n w p) f }
-  where
-    e : k ≡ k + 0
-    e = omega arith
-
-    f : count ≡ count - 0
-    f = omega arith
-
-module _ {first k count : ℕ} {w p₀ p : List ℕ} {i : ℕ} (t : Placing first k count w p₀ p i) where
-  pub placing_further : {q : List ℕ} → i < count → FairWords count w → page_size ≤ length p₀
-      → q ≡ placed first (k + i) (sheet_line (get_or w (i * 4) 0) (twos 64 (get_or w (i * 4 + 1) 0)) (get_or w (i * 4 + 2) 0) (get_or w (i * 4 + 3) 0)) p
-      → Placing first k count w p₀ q (i + 1)
-  placing_further {q} h f r e =
-      let x = f.fair i h in
-      let l = placed_length first (k + i) _ p (line_length x) (omega (arith, t.same)) in
-      let n : count - i ≡ suc (count - (i + 1)) = omega arith in
-      let m : i * 4 + 4 ≡ (i + 1) * 4 = omega arith in
-      let a : k + i + 1 ≡ k + (i + 1) = omega arith in
-      let g : (j : ℕ) → get_or (drop (i * 4) w) j 0 ≡ get_or w (i * 4 + j) 0 = λ (j : ℕ). get_or-drop (i * 4) w j 0 in
-      let z : get_or (drop (i * 4) w) 0 0 ≡ get_or w (i * 4) 0 = g 0 ∙ ap (λ (y : ℕ). get_or w y 0) zero_on in
-      record {
-        until = omega arith;
-        same = ap length e ∙ l ∙ t.same;
-        is =
-            t.is ∙ ap (λ (y : ℕ). placed_words first (k + i) y (drop (i * 4) w) p) n
-            ∙ line z (g 1) (g 2) (g 3)
-            ∙ ap (placed_words first (k + i + 1) (count - (i + 1)) (drop 4 (drop (i * 4) w))) (sym e)
-            ∙ ap (λ (y : ℕ). placed_words first y (count - (i + 1)) (drop 4 (drop (i * 4) w)) q) a
-            ∙ ap (λ (y : List ℕ). placed_words first (k + (i + 1)) (count - (i + 1)) y q) (drop-drop 4 (i * 4) w ∙ ap (λ (y : ℕ). drop y w) m);
-      }
-    where
-      zero_on : i * 4 + 0 ≡ i * 4
-      zero_on = omega arith
-
-      after : ℕ → ℕ → ℕ → ℕ → List ℕ
-      after a b c d = placed_words first (k + i + 1) (count - (i + 1)) (drop 4 (drop (i * 4) w)) (placed first (k + i) (sheet_line a (twos 64 b) c d) p)
-
-      line : {a b c d : ℕ} → get_or (drop (i * 4) w) 0 0 ≡ a → get_or (drop (i * 4) w) 1 0 ≡ b → get_or (drop (i * 4) w) 2 0 ≡ c → get_or (drop (i * 4) w) 3 0 ≡ d
-          → placed_words first (k + i) (suc (count - (i + 1))) (drop (i * 4) w) p ≡ after a b c d
-      line {a} {b} {c} {d} e f g h =
-          ap (λ (x : ℕ). after x (get_or (drop (i * 4) w) 1 0) (get_or (drop (i * 4) w) 2 0) (get_or (drop (i * 4) w) 3 0)) e
-          ∙ ap (λ (x : ℕ). after a x (get_or (drop (i * 4) w) 2 0) (get_or (drop (i * 4) w) 3 0)) f
-          ∙ ap (λ (x : ℕ). after a b x (get_or (drop (i * 4) w) 3 0)) g
-          ∙ ap (after a b c) h
-
-  pub placing_ended : count ≤ i → p ≡ placed_words first k count w p₀
-  placing_ended h = ap (λ (n : ℕ). placed_words first (k + i) n (drop (i * 4) w) p) e ∙ sym t.is
-    where
-      e : 0 ≡ count - i
-      e = omega arith
+pub placing_further : {first k i : ℕ} {items : List (List ℕ)} {p₀ p q : List ℕ} → Placing first k items p₀ p i → i < length items → All FairWords items → page_size ≤ length p₀
+    → q ≡ placed first (k + i) (words_line (get_or items i [])) p → Placing first k items p₀ q (i + 1)
+placing_further {first} {k} {i} {items} {p₀} {p} {q} t h f r e =
+    let l = placed_length first (k + i) _ p (line_length (f i [] h)) (omega (arith, t.same)) in
+    let a : k + i + 1 ≡ k + (i + 1) = omega arith in
+    record {
+      same = ap length e ∙ l ∙ t.same;
+      is =
+          t.is ∙ ap (λ (x : List (List ℕ)). placed_words first (k + i) x p) (drop-cons items i [] h) ∙ ap (placed_words first (k + i + 1) (drop (suc i) items)) (sym e)
+          ∙ ap (λ (n : ℕ). placed_words first n (drop (suc i) items) q) a ∙ ap (λ (n : ℕ). placed_words first (k + (i + 1)) (drop n items) q) (sym (add-one i));
+    }
 
 -- ---- the loop over items
 
@@ -481,9 +409,6 @@ module _ (most : ℕ) (few : most < 100) (s rows specs : List ℕ) (n : ℕ) whe
     pub stop : (read raw).stop ≡ (read here).stop
     pub is : placed_all first 0 (read raw).items p₀ ≡ placed_all first seen (read here).items p
 
-  pub going_begun : (p : List ℕ) (raw : EntriesRaw) → Opened (length s) raw → page_size ≤ length p → Going p raw p raw 0
-  going_begun p raw o r = record { from = o; opened = o; room = r; same = refl; tail = refl; count = omega arith; stop = refl; is = refl }
-
   module _ {p₀ : List ℕ} {raw : EntriesRaw} {p : List ℕ} {here : EntriesRaw} {seen : ℕ} (t : Going p₀ raw p here seen) where
     module _ {before after : List ℕ} {r : PassedEntries} (z : PassedAs (passed_items most (length before / 4) here s rows specs) before after r) where
       abbrev m : ℕ
@@ -498,11 +423,18 @@ module _ (most : ℕ) (few : most < 100) (s rows specs : List ℕ) (n : ℕ) whe
       fair : AllFair X.items
       fair = fair_left X.items (read X.raw).items (subst (λ (y : Reading). AllFair y.items) join (items_fair most few s rows specs here t.opened))
 
-      -- what the words are asked for
-      pub going_fair : FairWords r.count after
-      going_fair =
-          subst (λ (c : ℕ). FairWords c after) (sym z.count_is)
-          (subst (FairWords (length X.items)) (sym z.words_are) (fair_words X.items (drop (length X.items * 4) before) fair))
+      -- the words of the items that were passed
+      abbrev items : List (List ℕ)
+      items = passed most s rows specs t.opened.kept z
+
+      items_are : items ≡ map item_words X.items
+      items_are = passed_is most s rows specs t.opened.kept z
+
+      pub going_there : r.count ≤ length after / 4
+      going_there = passed_few most s rows specs t.opened.kept z
+
+      pub going_fair : All FairWords items
+      going_fair = subst (All FairWords) (sym items_are) (words_fair X.items fair)
 
       all : length (read raw).items ≡ seen + r.count + length (read X.raw).items
       all = t.count ∙ omega (arith, ap (λ (y : Reading). length y.items) join, length-append X.items (read X.raw).items, z.count_is)
@@ -510,16 +442,14 @@ module _ (most : ℕ) (few : most < 100) (s rows specs : List ℕ) (n : ℕ) whe
       pub going_few : seen + r.count ≤ max_section
       going_few = omega (arith, all, items_few most few s rows specs raw t.from)
 
-      pub going_less : {u : Unit {0}} → 0 < length before / 4 → here.position < length s → view_outcome r.answer ≡ got u → here.position < r.raw.position
+      pub going_less : {u : Unit {0}} → 0 < length before / 4 → here.position < length s → view r.answer ≡ got u → here.position < r.raw.position
       going_less h a e =
           let f = pass_further most s rows specs here t.opened.kept m h a (sym z.answer_is ∙ e) in
           omega (arith, f, ap (λ (y : EntriesRaw). y.position) z.raw_is)
 
-      module _ {q : List ℕ} (e : q ≡ placed_words first seen r.count after p) where
+      module _ {q : List ℕ} (e : q ≡ placed_words first seen items p) where
         stored : q ≡ placed_all first seen X.items p
-        stored =
-            e ∙ ap (λ (c : ℕ). placed_words first seen c after p) z.count_is ∙ ap (λ (w : List ℕ). placed_words first seen (length X.items) w p) z.words_are
-            ∙ words_placed first seen X.items (drop (length X.items * 4) before) p fair
+        stored = e ∙ ap (λ (w : List (List ℕ)). placed_words first seen w p) items_are ∙ words_placed first seen X.items p fair
 
         long : page_size ≤ length p
         long = omega (arith, t.room, t.same)
@@ -543,7 +473,7 @@ module _ (most : ℕ) (few : most < 100) (s rows specs : List ℕ) (n : ℕ) whe
             })
 
       -- a refusal leaves a blank page
-      pub going_stopped : {k : ℕ} {q : List ℕ} → view_outcome r.answer ≡ refused k → q ≡ splice (0 * 33) (in_bytes (replicate (60 - 0) blank_line)) p → record { answer = refused k; page = q } ≡ page_from n (read raw) p₀
+      pub going_stopped : {k : ℕ} {q : List ℕ} → view r.answer ≡ refused k → q ≡ splice (0 * 33) (in_bytes (replicate (60 - 0) blank_line)) p → record { answer = refused k; page = q } ≡ page_from n (read raw) p₀
       going_stopped {k} {q} a e =
           let f = pass_stop most s rows specs here t.opened.kept m (sym z.answer_is ∙ a) in
           let o = t.stop ∙ ap (λ (y : Reading). y.stop) join ∙ ap (λ (y : Reading). y.stop) f in
@@ -587,7 +517,7 @@ module _ (most : ℕ) (h : UnitHeader) (u rows specs : List ℕ) (e : RunTimeEnd
   unfolding sheet_reading
   reading_long l = rw (lt-leb (length u) max_section l)
 
-  pub reading_outside : length u ≤ max_section → entries_buf h u ≡ refused 19 → sheet_reading most h u rows specs e ≡ refused 19
+  pub reading_outside : {n : ℕ} → length u ≤ max_section → entries_buf h u ≡ refused n → sheet_reading most h u rows specs e ≡ refused n
   unfolding sheet_reading unit_reading
   reading_outside l b = rw (le-leb (length u) max_section l, b)
 
@@ -607,9 +537,9 @@ module _ (most : ℕ) (h : UnitHeader) (u rows specs : List ℕ) (e : RunTimeEnd
     pub page_shown : (n : ℕ) (p : List ℕ) → page_size ≤ length p → page_from n (reading_from most (start_of (unit_source h e)) s rows specs) p ≡ shown n (sheet_reading most h u rows specs e) p
     page_shown n p r = by (reading_from most (start_of (unit_source h e)) s rows specs) ∙ ap (λ (x : Answer (List Item)). shown n x p) (sym reading_of)
       where
-        stopped : (items : List Item) (o : Option Stop) → page_from n (record { items = items; stop = o }) p ≡ shown n (all_of (record { items = items; stop = o })) p
-        stopped items none = sym (shown_long n (got items) p r)
-        stopped items (some x) = sym (shown_long n (refused x.number) p r)
+        stopped : (l : List Item) (o : Option Stop) → page_from n (record { items = l; stop = o }) p ≡ shown n (all_of (record { items = l; stop = o })) p
+        stopped l none = sym (shown_long n (got l) p r)
+        stopped l (some x) = sym (shown_long n (refused x.number) p r)
 
         by : (x : Reading) → page_from n x p ≡ shown n (all_of x) p
         by x = stopped x.items x.stop

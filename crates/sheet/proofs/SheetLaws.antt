@@ -8,8 +8,10 @@ use borrow.Author.Tests.{leb-true, leb-false}
 use lib.Dec.{eqb, leb}
 use lib.IntN.{ℤ, pos, negsuc}
 use lib.ListN.{length, take, drop, get_or, replicate, length-take, length-drop}
-use lib.Seq.{take_all, take-nil}
-use Rattle.std.proofs.lemmas.List.{drop_at}
+use lib.Seq.{take_all}
+use Rattle.std.proofs.lemmas.List.{drop_at, drop_all, length-map, map-append, get_or-take, get_or-drop, get_or_append_left, get_or_default}
+use Rattle.std.proofs.Math.ListN.{get_or-map}
+use Rattle.std.proofs.Math.Seq.{get_or-append_right, take-add}
 use mathlib.Core.Option.{Option, none, some}
 use Rattle.reader.specs.Answer.{Answer, got, refused, if_some}
 use Rattle.unit.proofs.RangeLaws.{Or19, buf_19}
@@ -23,7 +25,7 @@ use Rattle.entries.proofs.RunLaws.{reading_none}
 use Rattle.listing.specs.Text.{ascii, digit, numeral, numeral_within, signed_numeral}
 use Rattle.sheet.specs.Sheet.{padded, right, tag_text, sheet_line, item_line, blank_line, on_page, filled, page_of, in_bytes, page_size, Shown, shown, sheet_reading}
 use Rattle.sheet.proofs.LineLaws.{Wide, bytes_length}
-use Rattle.sheet.proofs.PageLaws.{AllFair, FairItem, items_fair, start_opened, reading_of, reading_long, reading_outside, filled_wide, filled_length, fair_take, fair_drop, length_map, drop_far, shown_short, shown_long}
+use Rattle.sheet.proofs.PageLaws.{AllFair, FairItem, items_fair, start_opened, reading_of, reading_long, reading_outside, filled_wide, filled_length, fair_take, fair_drop, shown_short, shown_long}
 
 -- ---- a line
 
@@ -61,43 +63,8 @@ on_page_few n l = omega (arith, length-take 60 (drop (60 * n) l))
 on_page_fair : (n : ℕ) (l : List Item) → AllFair l → AllFair (on_page n l)
 on_page_fair n l h = fair_take 60 (drop (60 * n) l) (fair_drop (60 * n) l h)
 
-append_at : {A : Type 0} (xs ys : List A) (j : ℕ) (d : A) → j < length xs → get_or (xs ++ ys) j d ≡ get_or xs j d
-append_at [] ys j d h = absurd (omega arith)
-append_at (x ∷ xs) ys zero d h = refl
-append_at (x ∷ xs) ys (suc j) d h = append_at xs ys j d (omega arith)
-
-append_past : {A : Type 0} (xs ys : List A) (j : ℕ) (d : A) → length xs ≤ j → get_or (xs ++ ys) j d ≡ get_or ys (j - length xs) d
-append_past [] ys j d h = ap (λ (n : ℕ). get_or ys n d) e
-  where
-    e : j ≡ j - 0
-    e = omega arith
-append_past (x ∷ xs) ys zero d h = absurd (omega arith)
-append_past (x ∷ xs) ys (suc j) d h = append_past xs ys j d (omega arith) ∙ ap (λ (n : ℕ). get_or ys n d) e
-  where
-    e : j - length xs ≡ suc j - suc (length xs)
-    e = omega arith
-
 map_at : (l : List Item) (j : ℕ) (d : List ℕ) (z : Item) → j < length l → get_or (map item_line l) j d ≡ item_line (get_or l j z)
-map_at [] j d z h = absurd (omega arith)
-map_at (i ∷ l) zero d z h = refl
-map_at (i ∷ l) (suc j) d z h = map_at l j d z (omega arith)
-
-at_take : (n j : ℕ) (l : List Item) (z : Item) → j < n → get_or (take n l) j z ≡ get_or l j z
-at_take zero j l z h = absurd (omega arith)
-at_take (suc n) j [] z h = refl
-at_take (suc n) zero (i ∷ l) z h = refl
-at_take (suc n) (suc j) (i ∷ l) z h = at_take n j l z (omega arith)
-
-at_drop : (n j : ℕ) (l : List Item) (z : Item) → get_or (drop n l) j z ≡ get_or l (n + j) z
-at_drop zero j l z = ap (λ (m : ℕ). get_or l m z) e
-  where
-    e : j ≡ 0 + j
-    e = omega arith
-at_drop (suc n) j [] z = refl
-at_drop (suc n) j (i ∷ l) z = at_drop n j l z ∙ ap (λ (m : ℕ). get_or (i ∷ l) m z) e
-  where
-    e : suc (n + j) ≡ suc n + j
-    e = omega arith
+map_at l j d z h = get_or_default (map item_line l) j d (item_line z) (omega (arith, length-map l item_line)) ∙ get_or-map item_line l j z
 
 blank_at : (n j : ℕ) → get_or (replicate n blank_line) j blank_line ≡ blank_line
 blank_at zero j = refl
@@ -115,21 +82,21 @@ unfolding page_of
 line_is n j items z h k =
     let l = on_page n items in
     let there : j < length l = omega (arith, length-take 60 (drop (60 * n) items), length-drop (60 * n) items) in
-    append_at (map item_line l) (replicate (60 - length l) blank_line) j blank_line (omega (arith, length_map item_line l))
-    ∙ map_at l j blank_line z there ∙ ap item_line (at_take 60 j (drop (60 * n) items) z h ∙ at_drop (60 * n) j items z)
+    get_or_append_left (map item_line l) (replicate (60 - length l) blank_line) blank_line j (omega (arith, length-map l item_line))
+    ∙ map_at l j blank_line z there ∙ ap item_line (get_or-take 60 (drop (60 * n) items) j z h ∙ get_or-drop (60 * n) items j z)
 
 -- and unused where there is none
 pub line_unused : (n j : ℕ) (items : List Item) → length items ≤ 60 * n + j → get_or (page_of n (got items)) j blank_line ≡ blank_line
 unfolding page_of
 line_unused n j items h =
     let l = on_page n items in
-    append_past (map item_line l) (replicate (60 - length l) blank_line) j blank_line (omega (arith, length_map item_line l, length-take 60 (drop (60 * n) items), length-drop (60 * n) items))
+    get_or-append_right (map item_line l) (replicate (60 - length l) blank_line) j blank_line (omega (arith, length-map l item_line, length-take 60 (drop (60 * n) items), length-drop (60 * n) items))
     ∙ blank_at (60 - length l) (j - length (map item_line l))
 
 -- a page past the last item, however high its number, is blank
 pub page_past : (n : ℕ) (items : List Item) → length items ≤ 60 * n → page_of n (got items) ≡ replicate 60 blank_line
 unfolding page_of
-page_past n items h = ap (λ (l : List Item). filled (take 60 l)) (drop_far (60 * n) items h)
+page_past n items h = ap (λ (l : List Item). filled (take 60 l)) (drop_all (60 * n) items h)
 
 -- and so is every page of a unit that refuses
 pub page_refused : (n k : ℕ) → page_of n (refused k) ≡ replicate 60 blank_line
@@ -207,21 +174,6 @@ written_page n items =
     written_append (map item_line l) (replicate (60 - length l) blank_line)
     ∙ ap (λ (x : List (List ℕ)). written (map item_line l) ++ x) (written_blank (60 - length l)) ∙ append-nil (written (map item_line l)) ∙ written_lines l
 
-map_append : (l m : List Item) → map item_line (l ++ m) ≡ map item_line l ++ map item_line m
-map_append [] m = refl
-map_append (i ∷ l) m = ap (λ (x : List (List ℕ)). item_line i ∷ x) (map_append l m)
-
-take_add : (n k : ℕ) (l : List Item) → take n l ++ take k (drop n l) ≡ take (n + k) l
-take_add zero k l = ap (λ (m : ℕ). take m l) e
-  where
-    e : k ≡ 0 + k
-    e = omega arith
-take_add (suc n) k [] = take-nil k ∙ sym (take-nil (suc n + k))
-take_add (suc n) k (i ∷ l) = ap (λ (x : List Item). i ∷ x) (take_add n k l) ∙ ap (λ (m : ℕ). take m (i ∷ l)) e
-  where
-    e : suc (n + k) ≡ suc n + k
-    e = omega arith
-
 -- the first m pages without their blank lines have the lines of the first 60 m items, each once and in order
 pub pages_first : (m : ℕ) (items : List Item) → written (pages m items) ≡ map item_line (take (60 * m) items)
 pages_first zero items = refl
@@ -229,8 +181,8 @@ pages_first (suc m) items =
     written_append (pages m items) (page_of m (got items))
     ∙ ap (λ (x : List (List ℕ)). x ++ written (page_of m (got items))) (pages_first m items)
     ∙ ap (λ (x : List (List ℕ)). map item_line (take (60 * m) items) ++ x) (written_page m items)
-    ∙ sym (map_append (take (60 * m) items) (on_page m items))
-    ∙ ap (map item_line) (take_add (60 * m) 60 items)
+    ∙ sym (map-append item_line (take (60 * m) items) (on_page m items))
+    ∙ ap (map item_line) (sym (take-add (60 * m) 60 items))
     ∙ ap (λ (n : ℕ). map item_line (take n items)) e
   where
     e : 60 * m + 60 ≡ 60 * suc m

@@ -1,5 +1,5 @@
 -- What the private functions ask for and promise.
-use Rattle.std.specs.Prelude.{◌≡◌, cond, ◌&&◌, List, [], ◌∷◌, ◌++◌, ℕ, zero, suc, ◌+◌, ◌-◌, ◌*◌, ◌^◌, ◌≤◌, ◌<◌, ltb, leb, ℤ, nat_abs, length, take, drop, get_or}
+use Rattle.std.specs.Prelude.{◌≡◌, cond, ◌&&◌, List, [], ◌∷◌, ◌++◌, ℕ, ◌+◌, ◌-◌, ◌*◌, ◌^◌, ◌≤◌, ◌<◌, ltb, leb, ℤ, nat_abs, length, take, drop, get_or}
 use Rattle.reader.specs.Answer.{got, refused, if_some}
 use Rattle.reader.specs.Sizes.{max_section}
 use Rattle.reader.specs.Twos.{twos}
@@ -30,16 +30,18 @@ abbrev pub placed_all : (first k : ℕ) → List Item → List ℕ → List ℕ
 placed_all first k [] page = page
 placed_all first k (i ∷ l) page = placed_all first (k + 1) l (placed first k (item_line i) page)
 
--- the same of n items by their words
-abbrev pub placed_words : (first k : ℕ) → ℕ → List ℕ → List ℕ → List ℕ
-placed_words first k zero w page = page
-placed_words first k (suc n) w page =
-    placed_words first (k + 1) n (drop 4 w) (placed first k (sheet_line (get_or w 0 0) (twos 64 (get_or w 1 0)) (get_or w 2 0) (get_or w 3 0)) page)
+-- the line of an item by its words: its offset, its depth in two's complement, its tag and its count of values
+abbrev pub words_line : List ℕ → List ℕ
+words_line w = sheet_line (get_or w 0 0) (twos 64 (get_or w 1 0)) (get_or w 2 0) (get_or w 3 0)
 
--- the words of n items whose numbers have their columns
-pub record FairWords (n : ℕ) (w : List ℕ) : Type 0 where
-  pub there : n * 4 ≤ length w
-  pub fair : (i : ℕ) → i < n → Fair (get_or w (i * 4) 0) (twos 64 (get_or w (i * 4 + 1) 0)) (get_or w (i * 4 + 2) 0) (get_or w (i * 4 + 3) 0)
+-- the lines of items by their words
+abbrev pub placed_words : (first k : ℕ) → List (List ℕ) → List ℕ → List ℕ
+placed_words first k [] page = page
+placed_words first k (w ∷ ws) page = placed_words first (k + 1) ws (placed first k (words_line w) page)
+
+-- the words of an item whose numbers have their columns
+abbrev pub FairWords : List ℕ → Type 0
+FairWords w = Fair (get_or w 0 0) (twos 64 (get_or w 1 0)) (get_or w 2 0) (get_or w 3 0)
 
 -- the number of the first item of page n; no unit has so many items that a higher page had one
 abbrev pub first_on : ℕ → ℕ

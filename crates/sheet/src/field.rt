@@ -5,17 +5,11 @@ ghost use Rattle.listing.specs.Text.{digit, numeral, signed_numeral};
 ghost use Rattle.sheet.specs.Sheet.{padded};
 ghost use Rattle.sheet.specs.Steps.{splice};
 
-use reader::twos::to_word;
-
 pub(crate) fn put_text(out: &mut [u8], at: usize, text: &[u8])
     requires { at + length text.now ≤ length out.old }
     ensures { out.new ≡ splice at text.now out.old }
 {
-    let mut i: usize = 0;
-    while i < text.len() {
-        out[at + i] = text[i];
-        i += 1;
-    }
+    out[at..at + text.len()].copy_from_slice(text);
 }
 
 // One byte as often as there is room from a place up to another.
@@ -23,25 +17,24 @@ fn put_padding(out: &mut [u8], from: usize, to: usize, b: u8)
     requires { (from ≤ to) × (to ≤ length out.old) }
     ensures { out.new ≡ splice from (replicate (to - from) b) out.old }
 {
-    let mut i = from;
-    while i < to {
-        out[i] = b;
-        i += 1;
-    }
+    out[from..to].fill(b);
 }
 
+// That of `listing` is private, since it has a `requires` and no public function has one.
+#[tactic(auto, unfolding(listing::specs::Text::digit))]
 fn digit_of(d: u64) -> u8
     requires { d < 36 }
     ensures { result ≡ digit d }
 {
     if d < 10 {
-        (48 + d) as u8
+        b'0' + d as u8
     } else {
-        (87 + d) as u8
+        b'a' + (d - 10) as u8
     }
 }
 
 // A number at the right of some columns, from its last digit on. The place of its first digit.
+#[tactic(auto, using(crate::proofs::ColumnLaws::lengths))]
 pub(crate) fn put_field(
     out: &mut [u8],
     at: usize,
@@ -65,15 +58,13 @@ pub(crate) fn put_field(
 }
 
 // A decimal number at the right of 11 columns, its sign next to its digits.
+#[tactic(auto, using(crate::proofs::ColumnLaws::signed))]
 pub(crate) fn put_signed(out: &mut [u8], at: usize, z: i64)
     requires { (nat_abs z < 10 ^ 10) × (at + 11 ≤ length out.old) }
     ensures { out.new ≡ splice at (padded 32 11 (signed_numeral z)) out.old }
 {
-    let w = to_word(z);
-    if w < 0x8000_0000_0000_0000 {
-        put_field(out, at, 11, w, 10, b' ');
-        return;
+    let first = put_field(out, at, 11, z.unsigned_abs(), 10, b' ');
+    if z < 0 {
+        out[first - 1] = b'-';
     }
-    let first = put_field(out, at, 11, 0xffff_ffff_ffff_ffff - w + 1, 10, b' ');
-    out[first - 1] = b'-';
 }

@@ -19,7 +19,8 @@ fn put_tag(out: &mut [u8], at: usize, tag: u64)
     put_field(out, at + 2, 4, tag, 16, b'0');
 }
 
-// The columns of an item and a line feed.
+// The columns of an item and a line feed. Out of line, since most items of a unit have no line on a page.
+#[inline(never)]
 fn put_line(out: &mut [u8], at: usize, offset: u64, depth: i64, tag: u64, count: u64)
     requires room { at + 33 ≤ length out.old }
     requires fair { Fair offset depth tag count }
@@ -63,9 +64,7 @@ pub(crate) fn put_blank(page: &mut [u8], line: usize)
     requires { (line ≤ 60) × (page_size ≤ length page.old) }
     ensures { page.new ≡ splice (line * 33) (in_bytes (replicate (60 - line) blank_line)) page.old }
 {
-    let mut i = line;
-    while i < 60 {
+    for i in line..60 {
         put_text(page, i * 33, b"                                \n");
-        i += 1;
     }
 }

@@ -1,11 +1,14 @@
-use Prim.Native.Nat.{◌-◌}
-use Rattle.listing.proofs.ListLaws.{Going}
-use lib.ListN.{length}
-use mathlib.Core.Path.{◌≡◌}
+use Rattle.std.proofs.Common.{◌≡◌, ◌-◌, length}
+use Rattle.abbrev.specs.Table.{entry_limit}
+use Rattle.entries.specs.Steps.{KeptRaw}
+use Rattle.listing.specs.Listing.{item_lines}
+use Rattle.listing.proofs.LinesLaws.{Going}
 use Rattle.listing.proofs.list.list_items.Given as goal
 
 abbrev pub invariant-loop-here : goal.invariant-loop-here
-invariant-loop-here l = Going 64 l.unit l.bytes l.rows l.specs l.initial.out l.initial.held l.initial.here l.out l.here l.held × (length l.words ≡ 1024)
+invariant-loop-here l =
+    KeptRaw (length l.bytes) l.here × (length l.words ≡ 1024)
+    × Going l.initial.lines l.lines (item_lines entry_limit.most l.unit l.initial.here l.bytes l.rows l.specs) (item_lines entry_limit.most l.unit l.here l.bytes l.rows l.specs)
 
 abbrev pub decreases-loop-here : goal.decreases-loop-here
 decreases-loop-here l = length l.bytes - l.here.position
