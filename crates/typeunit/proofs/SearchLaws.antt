@@ -1,24 +1,24 @@
 -- The search is for the first in the list.
-use mathlib.Core.Bool.{true, false, false≢true}
-use mathlib.Core.Path.{◌≡◌, refl, sym, ap, subst, ◌∙◌}
+use mathlib.Core.Bool.{true, false}
+use mathlib.Core.Path.{◌≡◌, refl, ap}
 use mathlib.Core.List.{List, [], ◌∷◌, ◌++◌}
 use mathlib.Core.Option.{Option, none, some}
 use Prim.Native.Nat.{ℕ, ◌+◌, ◌≤◌}
-use native.Mathlib.Omega.{arith}
 use borrow.Author.Tests.{eqb-true, eq-eqb}
 use lib.Dec.{eqb}
+use lib.ListN.{length}
 use Rattle.reader.specs.Answer.{Answer, got, refused, if_some}
 use Rattle.reader.specs.declared.endianity.RunTimeEndian.{RunTimeEndian}
 use Rattle.reader.proofs.Answers.{cond_by}
 use Rattle.unit.specs.Header.{unit_end}
 use Rattle.unit.specs.Parse.{UnitSection, section_of}
-use Rattle.unit.specs.Units.{next_unit, listed_by, unit_list}
+use Rattle.unit.specs.Units.{next_unit, unit_list}
 use Rattle.unit.specs.declared.header.UnitHeader.{UnitHeader}
 use Rattle.unit.specs.declared.header.UnitType.{UnitType}
 use Rattle.unit.specs.declared.header.UnitType.TheVariants.{Compilation, «Type», Partial, Skeleton, SplitCompilation, SplitType}
 use Rattle.unit.specs.declared.parse.SectionId.{SectionId}
 use Rattle.unit.proofs.SectionLaws.{EarlyStop, stop_early}
-use Rattle.unit.proofs.UnitsLaws.{UnitIn, list_step, InPlace, list_in_place, in_its_place}
+use Rattle.unit.proofs.UnitsLaws.{UnitIn, unit_in, list_step, list_in_place, in_its_place}
 use Rattle.typeunit.specs.Search.{signature_of, carries, type_offset, first_with, found_in, unit_with}
 
 -- ---- one header after another
@@ -28,20 +28,23 @@ abbrev pub search_from : UnitSection → List ℕ → ℕ → RunTimeEndian → 
 search_from sec s sig e at = found_in sig (unit_list sec s at e)
 
 module _ (sec : UnitSection) (s : List ℕ) (sig : ℕ) (e : RunTimeEndian) (at : ℕ) where
-  stepped : (r : Answer (Option UnitHeader)) → (next_unit sec s at e).answer ≡ r → search_from sec s sig e at ≡ found_in sig (listed_by r (unit_list sec s (next_unit sec s at e).offset e))
-  stepped r q = ap (found_in sig) (list_step sec s at e ∙ ap (λ (r : Answer (Option UnitHeader)). listed_by r (unit_list sec s (next_unit sec s at e).offset e)) q)
-
   pub search_found : {h : UnitHeader} → (next_unit sec s at e).answer ≡ got (some h) → carries sig h ≡ true → search_from sec s sig e at ≡ got h
-  search_found {h} q c = stepped (got (some h)) q ∙ rw c
+  search_found q c = rw (list_step sec s at e, q, c)
 
   pub search_on : {h : UnitHeader} → (next_unit sec s at e).answer ≡ got (some h) → carries sig h ≡ false → search_from sec s sig e at ≡ search_from sec s sig e (next_unit sec s at e).offset
-  search_on {h} q c = stepped (got (some h)) q ∙ rw c
+  search_on q c = rw (list_step sec s at e, q, c)
 
   pub search_none : (next_unit sec s at e).answer ≡ got none → search_from sec s sig e at ≡ refused 22
-  search_none q = stepped (got none) q
+  search_none q = rw (list_step sec s at e, q)
 
   pub search_refused : {n : ℕ} → (next_unit sec s at e).answer ≡ refused n → search_from sec s sig e at ≡ refused n
-  search_refused {n} q = stepped (refused n) q
+  search_refused q = rw (list_step sec s at e, q)
+
+pub ruleset search_steps = (search_found, search_on, search_none, search_refused)
+
+-- behind a header the list goes on in the section
+pub list_inside : (sec : UnitSection) (s : List ℕ) (at : ℕ) (e : RunTimeEndian) {h : UnitHeader} → (next_unit sec s at e).answer ≡ got (some h) → (next_unit sec s at e).offset ≤ length s
+list_inside sec s at e q = (unit_in sec s at e q).there
 
 -- ---- which units carry a signature: those of type 2 and 6, and no others
 
@@ -54,12 +57,12 @@ unfolding carries
 carries_is sig h = by h.unit_type
   where
     by : (t : UnitType) → if_some (signature_of t) false (λ x. eqb x.signature sig) ≡ true → Carried sig t
-    by («Type» s o) q = subst (λ (n : ℕ). Carried sig («Type» n o)) (sym (eqb-true s sig q)) (type o)
-    by (SplitType s o) q = subst (λ (n : ℕ). Carried sig (SplitType n o)) (sym (eqb-true s sig q)) (split o)
-    by Compilation q = absurd (false≢true q)
-    by Partial q = absurd (false≢true q)
-    by (Skeleton i) q = absurd (false≢true q)
-    by (SplitCompilation i) q = absurd (false≢true q)
+    by («Type» s o) q = rw (eqb-true s sig q) (type o)
+    by (SplitType s o) q = rw (eqb-true s sig q) (split o)
+    by Compilation q = absurd (cc)
+    by Partial q = absurd (cc)
+    by (Skeleton i) q = absurd (cc)
+    by (SplitCompilation i) q = absurd (cc)
 
 pub is_carries : (sig : ℕ) (h : UnitHeader) → Carried sig h.unit_type → carries sig h ≡ true
 unfolding carries
@@ -127,7 +130,7 @@ module _ (id : SectionId) (s : List ℕ) (sig : ℕ) (e : RunTimeEndian) where
   -- a unit is found exactly if it is the first in the list
   pub first_found : {h : UnitHeader} → First sig headers h → unit_with (section_of id) s sig e ≡ got h
   unfolding unit_with
-  first_found {h} f = ap (λ (o : Option UnitHeader). if_some o (refused (if_some stop 22 (λ n. n))) (λ h. got h)) (ap (first_with sig) f.list_is ∙ first_first sig f.before f.behind h f.others f.matches)
+  first_found {h} f = rw (f.list_is, first_first sig f.before f.behind h f.others f.matches)
 
   -- 22 exactly if all headers read and none matches
   pub none_missing : NoneWith sig headers → stop ≡ none → unit_with (section_of id) s sig e ≡ refused 22
@@ -162,11 +165,9 @@ module _ (id : SectionId) (s : List ℕ) (sig : ℕ) (e : RunTimeEndian) where
   found_in_lem {h} = by (unit_with (section_of id) s sig e) searched
     where
       placed : (x : UnitHeader) → First sig headers x → UnitIn (section_of id) s e x.offset x (x.offset + unit_end x)
-      placed x f = in_its_place (section_of id) s e 0 f.before f.behind x (subst (InPlace (section_of id) s e 0) f.list_is (list_in_place (section_of id) s e 0))
+      placed x f = in_its_place (section_of id) s e 0 f.before f.behind x (rw f.list_is at (list_in_place (section_of id) s e 0))
 
       by : (r : Answer UnitHeader) → Searched r → r ≡ got h → UnitIn (section_of id) s e h.offset h (h.offset + unit_end h)
-      by _ (found x f) q =
-          let y : x ≡ h = cc in
-          subst (λ (x : UnitHeader). UnitIn (section_of id) s e x.offset x (x.offset + unit_end x)) y (placed x f)
-      by _ (missing n z) q = let y : ◌≡◌ {A = ℕ} 0 1 = cc in absurd (omega (arith, y))
-      by _ (stopped k n z b) q = let y : ◌≡◌ {A = ℕ} 0 1 = cc in absurd (omega (arith, y))
+      by _ (found x f) q = let y : h ≡ x = cc in rw y (placed x f)
+      by _ (missing n z) q = absurd (cc)
+      by _ (stopped k n z b) q = absurd (cc)

@@ -1,6 +1,6 @@
 -- Walks over a unit of any section, from its root and from its type entry: demand 3 as it stands for every unit.
 use mathlib.Core.Bool.{Bool, true, false, cond, not}
-use mathlib.Core.Path.{◌≡◌, refl, sym, ap, subst, ◌∙◌}
+use mathlib.Core.Path.{◌≡◌, refl, sym, ap, ◌∙◌}
 use mathlib.Core.List.{List, map}
 use Prim.Native.Nat.{ℕ, ◌+◌, ◌/◌, ◌^◌, ◌<◌}
 use native.Mathlib.Omega.{arith}
@@ -13,7 +13,7 @@ use Rattle.reader.specs.Answer.{Answer, got, refused, and_then, Read, gives}
 use Rattle.reader.specs.declared.endianity.RunTimeEndian.{RunTimeEndian}
 use Rattle.abbrev.specs.Rows.{table_rows, table_specs}
 use Rattle.abbrev.specs.Table.{Limit, Declaration, abbreviations_at}
-use Rattle.abbrev.proofs.Lookups.{both}
+use Rattle.std.proofs.lemmas.Bool.{and_parts}
 use Rattle.unit.specs.Header.{size_of_header, unit_end, in_bounds}
 use Rattle.unit.specs.Parse.{UnitSection, section_of}
 use Rattle.unit.specs.Range.{unit_bytes, range_from}
@@ -62,9 +62,8 @@ module _ (sec : UnitSection) (units : List ℕ) (e : RunTimeEndian) (h : UnitHea
     part_short : offset + length bytes_from < 2 ^ 63
     unfolding in_bounds
     part_short =
-        let b = both (leb (size_of_header h) offset) (ltb offset (unit_end h)) inside in
-        let z = ltb-true offset (unit_end h) b.1 in
-        rw (length-drop offset own_bytes) (omega (arith, own_length, z, there.there, there.short))
+        let b = and_parts (leb (size_of_header h) offset) (ltb offset (unit_end h)) inside in
+        rw (length-drop offset own_bytes) (omega (arith, own_length, ltb-true offset (unit_end h) b.1, there.there, there.short))
 
     start : EntriesRaw
     start = start_of (source_from h offset e)
@@ -132,9 +131,6 @@ module _ (id : SectionId) (l : Limit) (abbrevs units : List ℕ) (sig : ℕ) (e 
       Parts : Type 0
       Parts = TypeParts id l abbrevs units sig e m k r
 
-      no : {A : Type 0} {n : ℕ} {r : A} → ◌≡◌ {A = Answer A} (refused n) (got r) → ⊥
-      no q = let y : ◌≡◌ {A = ℕ} 0 1 = cc in omega (arith, y)
-
       by_entry : sections_kept abbrevs units ≡ true → (h : UnitHeader) → unit_with (section_of id) units sig e ≡ got h → in_bounds h (type_offset h) ≡ true
           → (t : List Declaration) → abbreviations_at abbrevs h.debug_abbrev_offset l (m / 5) (k / 3) ≡ got t
           → with_entry l.most units (table_rows m t) (table_specs k t) e h ≡ got r → h ≡ r.header → Parts
@@ -142,42 +138,42 @@ module _ (id : SectionId) (l : Limit) (abbrevs units : List ℕ) (sig : ℕ) (e 
           record {
             kept = s;
             found = f ∙ ap got p;
-            inside = subst (λ (h : UnitHeader). in_bounds h (type_offset h) ≡ true) p b;
+            inside = rw p at b;
             table = t;
-            table_read = subst (λ (h : UnitHeader). abbreviations_at abbrevs h.debug_abbrev_offset l (m / 5) (k / 3) ≡ got t) p a;
-            entry_read = subst (λ (h : UnitHeader). with_entry l.most units (table_rows m t) (table_specs k t) e h ≡ got r) p q;
+            table_read = rw p at a;
+            entry_read = rw p at q;
           }
 
       own_header : (h : UnitHeader) (t : List Declaration) → with_entry l.most units (table_rows m t) (table_specs k t) e h ≡ got r → h ≡ r.header
       own_header h t = in_bytes_lem (unit_bytes h units)
         where
           in_entry : (x : Answer Entry) → ◌≡◌ {A = Answer TypeUnit} (and_then x (λ x. got (record { header = h; entry = x }))) (got r) → h ≡ r.header
-          in_entry (got x) q = let y : ◌≡◌ {A = TypeUnit} (record { header = h; entry = x }) r = cc in ap (λ (r : TypeUnit). r.header) y
-          in_entry (refused n) q = absurd (no q)
+          in_entry (got x) q = cc
+          in_entry (refused n) q = absurd (cc)
 
           in_bytes_lem : (u : Answer (List ℕ))
               → ◌≡◌ {A = Answer TypeUnit} (and_then u (λ u. and_then (entry_from h u l.most (table_rows m t) (table_specs k t) (type_offset h) e) (λ x. got (record { header = h; entry = x })))) (got r) → h ≡ r.header
           in_bytes_lem (got u) q = in_entry (entry_from h u l.most (table_rows m t) (table_specs k t) (type_offset h) e) q
-          in_bytes_lem (refused n) q = absurd (no q)
+          in_bytes_lem (refused n) q = absurd (cc)
 
       by_table : sections_kept abbrevs units ≡ true → (h : UnitHeader) → unit_with (section_of id) units sig e ≡ got h → in_bounds h (type_offset h) ≡ true
           → (a : Answer (List Declaration)) → abbreviations_at abbrevs h.debug_abbrev_offset l (m / 5) (k / 3) ≡ a
           → and_then a (λ t. with_entry l.most units (table_rows m t) (table_specs k t) e h) ≡ got r → Parts
       by_table s h f b (got t) a q = by_entry s h f b t a q (own_header h t q)
-      by_table s h f b (refused n) a q = absurd (no q)
+      by_table s h f b (refused n) a q = absurd (cc)
 
       by_bounds : sections_kept abbrevs units ≡ true → (h : UnitHeader) → unit_with (section_of id) units sig e ≡ got h → (b : Bool) → in_bounds h (type_offset h) ≡ b
           → type_entry l abbrevs units e m k (cond b (got h) (refused 19)) ≡ got r → Parts
       by_bounds s h f true b q = by_table s h f b (abbreviations_at abbrevs h.debug_abbrev_offset l (m / 5) (k / 3)) refl q
-      by_bounds s h f false b q = absurd (no q)
+      by_bounds s h f false b q = absurd (cc)
 
       by_search : sections_kept abbrevs units ≡ true → (a : Answer UnitHeader) → unit_with (section_of id) units sig e ≡ a → type_entry l abbrevs units e m k (and_then a bounded) ≡ got r → Parts
       by_search s (got h) f q = by_bounds s h f (in_bounds h (type_offset h)) refl q
-      by_search s (refused n) f q = absurd (no q)
+      by_search s (refused n) f q = absurd (cc)
 
       by_sizes : (b : Bool) → sections_kept abbrevs units ≡ b → type_entry l abbrevs units e m k (judged b (and_then (unit_with (section_of id) units sig e) bounded)) ≡ got r → Parts
       by_sizes true s q = by_search s (unit_with (section_of id) units sig e) refl q
-      by_sizes false s q = absurd (no q)
+      by_sizes false s q = absurd (cc)
 
   -- it lies in its section, so that all from the type's offset on is there
   module _ (p : TypeParts id l abbrevs units sig e m k r) where
@@ -209,19 +205,15 @@ module _ (id : SectionId) (l : Limit) (abbrevs units : List ℕ) (sig : ℕ) (e 
             sym (rw (own_read (section_of id) units e r.header type_in) (ap (with_unit r.header) (entry_there (section_of id) units e r.header type_in (type_offset r.header) p.inside l.most (table_rows m p.table) (table_specs k p.table))))
             ∙ p.entry_read
 
-        no : {n : ℕ} → ◌≡◌ {A = Answer TypeUnit} (refused n) (got r) → ⊥
-        no q = let y : ◌≡◌ {A = ℕ} 0 1 = cc in omega (arith, y)
-
         by_null : (i : Read Entry) → type_read ≡ got i → (b : Bool) → is_null i.value ≡ b → with_unit r.header (cond b (refused 20) (got i.value)) ≡ got r → EntryThere
-        by_null i t true n q = absurd (no q)
+        by_null i t true n q = absurd (cc)
         by_null i t false n q =
-            let y : ◌≡◌ {A = TypeUnit} (record { header = r.header; entry = i.value }) r = cc in
-            let z = ap (λ (x : TypeUnit). x.entry) y in
-            record { next = i.next; read = t ∙ ap (λ (x : Entry). gives x i.next) z; some = subst (λ (x : Entry). is_null x ≡ false) z n }
+            let z : i.value ≡ r.entry = cc in
+            record { next = i.next; read = t ∙ ap (λ (x : Entry). gives x i.next) z; some = rw z at n }
 
         by : (x : Answer (Read Entry)) → type_read ≡ x → with_unit r.header (and_then x noted) ≡ got r → EntryThere
         by (got i) t q = by_null i t (is_null i.value) refl q
-        by (refused n) t q = absurd (no q)
+        by (refused n) t q = absurd (cc)
 
     -- demand 3 from the type entry, with the rows that the table call left
     pub type_demand_3 : (rows specs : List ℕ) (L : List flat.Item) → root_reading l.most (source_from r.header (type_offset r.header) e) type_bytes rows specs ≡ got L

@@ -4,11 +4,12 @@ use Rattle.std.proofs.Math.Option.{Option, none, some}
 use Rattle.reader.specs.Answer.{Answer, got, refused, and_then, if_some}
 use Rattle.reader.specs.declared.endianity.RunTimeEndian.{RunTimeEndian}
 use Rattle.unit.specs.Header.{in_bounds}
-use Rattle.unit.specs.Parse.{UnitSection, Signature}
+use Rattle.unit.specs.Parse.{UnitSection}
 use Rattle.unit.specs.Units.{UnitList, unit_list}
 use Rattle.unit.specs.declared.header.UnitHeader.{UnitHeader}
 use Rattle.unit.specs.declared.header.UnitType.{UnitType}
 use Rattle.unit.specs.declared.header.UnitType.TheVariants.{Compilation, «Type», Partial, Skeleton, SplitCompilation, SplitType}
+use Rattle.unit.specs.declared.parse.Signature.{Signature}
 use Rattle.entries.specs.Open.{sections_kept}
 use Rattle.entries.specs.Raw.{judged}
 
