@@ -1,4 +1,3 @@
 -- Laws that several proofs cite.
 pub mod OutLaws
 pub mod AnswerLaws
-pub mod CallLaws

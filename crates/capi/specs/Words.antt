@@ -2,10 +2,11 @@
 use Rattle.std.specs.Prelude.{Bool, cond, List, [], ◌∷◌, ◌++◌, ◌≡◌, ℕ, ◌≤◌, eqb, ℤ, length, take, replicate}
 use Rattle.std.proofs.Math.Option.{Option, none, some}
 use Rattle.reader.specs.Answer.{Answer, got, refused, Read}
-use Rattle.reader.specs.Fields.{Initial, word_size, address_at}
-use Rattle.reader.specs.Padded.{Counted}
+use Rattle.reader.specs.Fields.{word_size, address_at}
 use Rattle.reader.specs.Twos.{word}
 use Rattle.reader.specs.Words.{word_at}
+use Rattle.reader.specs.declared.answer.Counted.{Counted}
+use Rattle.reader.specs.declared.answer.Initial.{Initial}
 use Rattle.reader.specs.declared.common.Encoding.{Encoding}
 use Rattle.reader.specs.declared.common.Format.TheVariants.{Dwarf32, Dwarf64}
 use Rattle.reader.specs.declared.endianity.RunTimeEndian.{RunTimeEndian}

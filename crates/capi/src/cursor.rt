@@ -1,66 +1,70 @@
 // The cursor's calls, one after another.
 
-ghost use Rattle.std.specs.Prelude.{◌≡◌, ◌≤◌, length};
+ghost use Rattle.std.specs.Prelude.{[], ◌∷◌, ◌++◌, ◌≡◌, ◌≤◌, length};
 ghost use Rattle.abbrev.specs.Table.{entry_limit};
 ghost use Rattle.entries.specs.Cursor.{opened_cursor};
-ghost use Rattle.entries.specs.Views.{view_next, view_cursor, view_cursor_next};
+ghost use Rattle.reader.specs.Views.{view};
+ghost use Rattle.entries.specs.Views.{view_cursor, view_cursor_next};
 ghost use Rattle.capi.specs.Calls.{answer_words, raw_words, called_words, cursor_call, cursor_calls};
 ghost use Rattle.capi.specs.Words.{Gives, encoding_of, endian_of, Put};
 
-use super::out::{encoding_of, endian_of, put_entry, put2, refuse};
-use entries::cursor::{CursorNext, EntriesCursor, Next};
-use entries::raw::{EntriesRaw, Outcome};
-use reader::fill::clear_words;
+use super::out::{encoding_of, endian_of, finish, put, put_entry, refuse};
+use entries::cursor::{CursorNext, EntriesCursor};
+use entries::raw::EntriesRaw;
+use reader::error::Error;
 use reader::twos::to_word;
 
-pub(crate) fn put_answer(out: &mut [u64], at: usize, answer: Next) -> usize
-    requires { at ≤ length out.old }
-    ensures { Put out.old out.new at result (answer_words (view_next answer)) }
+// C gets what a call says as two words: the status, and 1 where something was reached.
+pub(crate) fn answer_words(answer: Result<bool, Error>) -> (u64, u64)
+    ensures { answer_words (view answer) ≡ result.0 ∷ result.1 ∷ [] }
 {
     match answer {
-        Next::Held => put2(out, at, 0, 1),
-        Next::NoMore => put2(out, at, 0, 0),
-        Next::Refused(e) => put2(out, at, e.number(), 0),
+        Ok(reached) => (0, u64::from(reached)),
+        Err(e) => (e.number(), 0),
     }
 }
 
-pub(crate) fn put_raw(out: &mut [u64], at: usize, raw: EntriesRaw) -> usize
+// What a call says, and position and depth of the next item.
+pub(crate) fn put_state(
+    out: &mut [u64],
+    at: usize,
+    answer: Result<bool, Error>,
+    raw: EntriesRaw,
+) -> usize
     requires { at ≤ length out.old }
-    ensures { Put out.old out.new at result (raw_words raw) }
+    ensures { Put out.old out.new at result (answer_words (view answer) ++ raw_words raw) }
 {
-    let depth = to_word(raw.depth);
-    put2(out, at, raw.position as u64, depth)
+    let (status, reached) = answer_words(answer);
+    put(
+        out,
+        at,
+        &[status, reached, raw.position as u64, to_word(raw.depth)],
+    )
 }
 
 // One call: 0 is next_entry, 1 next_dfs, any other number next_sibling.
 fn call(cursor: EntriesCursor, op: u8, bytes: &[u8], rows: &[u64], specs: &[u64]) -> CursorNext
     ensures { view_cursor_next result ≡ cursor_call entry_limit.most bytes.now rows.now specs.now op (view_cursor cursor) }
 {
-    if op == 0 {
-        return cursor.next_entry(bytes, rows, specs);
+    match op {
+        0 => cursor.next_entry(bytes, rows, specs),
+        1 => cursor.next_dfs(bytes, rows, specs),
+        _ => cursor.next_sibling(bytes, rows, specs),
     }
-    if op == 1 {
-        return cursor.next_dfs(bytes, rows, specs);
-    }
-    cursor.next_sibling(bytes, rows, specs)
 }
 
 fn put_called(out: &mut [u64], at: usize, called: CursorNext) -> usize
     requires { at ≤ length out.old }
     ensures { Put out.old out.new at result (called_words (view_cursor_next called)) }
 {
-    let answer = called.answer;
-    let cursor = called.cursor;
-    let input = cursor.input;
-    let first = put_answer(out, at, answer);
-    let second = put_raw(out, first, input);
-    if out.len() <= second {
-        return second;
+    let state = put_state(out, at, called.answer, called.cursor.input);
+    if out.len() <= state {
+        return state;
     }
-    let entry = cursor.entry;
-    put_entry(out, second, entry)
+    put_entry(out, state, called.cursor.entry)
 }
 
+#[tactic(auto, unfolding(crate::specs::Calls::cursor_calls))]
 fn run(
     cursor: EntriesCursor,
     bytes: &[u8],
@@ -72,14 +76,11 @@ fn run(
     ensures { Put out.old out.new 0 result (cursor_calls entry_limit.most bytes.now rows.now specs.now calls.now (view_cursor cursor)) }
 {
     let mut held = cursor;
-    let mut end: usize = 0;
-    let mut i: usize = 0;
-    while i < calls.len() {
-        let op = calls[i];
-        let called = call(held, op, bytes, rows, specs);
+    let mut end = 0;
+    for op in calls {
+        let called = call(held, *op, bytes, rows, specs);
         end = put_called(out, end, called);
         held = called.cursor;
-        i += 1;
     }
     end
 }
@@ -87,6 +88,7 @@ fn run(
 // A cursor over a part of a unit that starts at the offset `start`, and calls on it: 0 is next_entry,
 // 1 next_dfs, any other number next_sibling. Words for each call: status, 1 where something was reached,
 // position and depth of the next item, then the entry or null that is held.
+#[tactic(auto, using(crate::proofs::OutLaws::said, crate::proofs::AnswerLaws::cursor_back))]
 pub fn tehkumir_cursor(
     bytes: &[u8],
     start: usize,
@@ -102,16 +104,12 @@ pub fn tehkumir_cursor(
     ensures { Gives (cursor_calls entry_limit.most bytes.now rows.now specs.now calls.now) (opened_cursor entry_limit.most (length bytes.now) start (encoding_of version is_64 width) (endian_of is_big)) out.old out.new result }
 {
     let encoding = encoding_of(version, is_64, width);
-    let endian = endian_of(is_big);
-    let opened = EntriesCursor::new(bytes, start, encoding, endian);
-    let answer = opened.answer;
-    let cursor = opened.cursor;
-    match answer {
-        Outcome::Done => {
-            let end = run(cursor, bytes, rows, specs, calls, out);
-            clear_words(out, end);
-            0
+    let opened = EntriesCursor::new(bytes, start, encoding, endian_of(is_big));
+    match opened.answer {
+        Ok(()) => {
+            let end = run(opened.cursor, bytes, rows, specs, calls, out);
+            finish(out, end)
         }
-        Outcome::Refused(e) => refuse(out, e),
+        Err(e) => refuse(out, e),
     }
 }

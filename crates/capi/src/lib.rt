@@ -5,7 +5,7 @@
 
 pub mod cursor; // the cursor's calls
 pub mod levels; // the tree's calls
-pub mod lines; // the listing of two sections
+pub mod lines; // the lines of a listing
 pub mod numbers; // LEB128 numbers and words
 mod out; // words stored
 pub mod pages; // a page of the shelf sheet

@@ -3,7 +3,7 @@
 ghost use Rattle.listing.specs.Listing.{place_in};
 ghost use Rattle.capi.specs.Lines.{ListedWords};
 
-use super::out::{bit_of, give6};
+use super::out::give;
 use listing::list::list;
 use listing::place::ListingPlace;
 use reader::twos::to_word;
@@ -32,16 +32,16 @@ pub fn tehkumir_list(
         depth,
     };
     let listed = list(abbrevs, info, rows, specs, place, text);
-    let more = bit_of(listed.more);
-    let next = listed.place;
-    let level = to_word(next.depth);
-    give6(
+    let next = listed.next.unwrap_or_default();
+    give(
         out,
-        listed.bytes as u64,
-        listed.lines as u64,
-        more,
-        next.unit as u64,
-        next.offset as u64,
-        level,
+        &[
+            listed.bytes as u64,
+            listed.lines as u64,
+            u64::from(listed.next.is_some()),
+            next.unit as u64,
+            next.offset as u64,
+            to_word(next.depth),
+        ],
     )
 }

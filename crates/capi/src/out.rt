@@ -1,19 +1,20 @@
 // Words stored one after another in a lent slice, as far as it has room.
 
-ghost use Rattle.std.specs.Prelude.{[], ◌∷◌, map, ◌≡◌, ◌≤◌, length, take};
+ghost use Rattle.std.specs.Prelude.{[], ◌∷◌, ◌++◌, ◌-◌, map, ◌≡◌, ◌≤◌, length, take, replicate};
 ghost use Rattle.reader.specs.Errors.{number_of};
 ghost use Rattle.attribute.specs.Views.{view_attribute};
 ghost use Rattle.entries.specs.Views.{view_entry};
-ghost use Rattle.capi.specs.Words.{Says, encoding_of, endian_of, attribute_words, attributes_words, entry_words, bit, Put};
+ghost use Rattle.capi.specs.Words.{Says, encoding_of, endian_of, attribute_words, attributes_words, entry_words, Put};
 
 use attribute::value::Attribute;
 use entries::entry::Entry;
 use reader::common::{Encoding, Format};
 use reader::endianity::RunTimeEndian;
 use reader::error::Error;
-use reader::fill::clear_words;
+use reader::fill::fill;
 use reader::twos::to_word;
 
+// C tells the order of bytes by a flag.
 pub(crate) fn endian_of(is_big: bool) -> RunTimeEndian
     ensures { result ≡ endian_of is_big }
 {
@@ -27,168 +28,97 @@ pub(crate) fn endian_of(is_big: bool) -> RunTimeEndian
 pub(crate) fn encoding_of(version: u16, is_64: bool, width: u8) -> Encoding
     ensures { result ≡ encoding_of version is_64 width }
 {
-    if is_64 {
-        return Encoding {
-            address_size: width,
-            format: Format::Dwarf64,
-            version,
-        };
-    }
     Encoding {
         address_size: width,
-        format: Format::Dwarf32,
+        format: if is_64 {
+            Format::Dwarf64
+        } else {
+            Format::Dwarf32
+        },
         version,
     }
 }
 
-pub(crate) fn bit_of(b: bool) -> u64
-    ensures { result ≡ bit b }
-{
-    if b { 1 } else { 0 }
-}
-
-pub(crate) fn put(out: &mut [u64], at: usize, w: u64) -> usize
+fn put_word(out: &mut [u64], at: usize, word: u64) -> usize
     requires { at ≤ length out.old }
-    ensures { Put out.old out.new at result (w ∷ []) }
+    ensures { Put out.old out.new at result (word ∷ []) }
 {
     if at < out.len() {
-        out[at] = w;
+        out[at] = word;
         return at + 1;
     }
     at
+}
+
+// One test for each word: a loop that ends where the room does is compiled to a call of memcpy.
+pub(crate) fn put(out: &mut [u64], at: usize, words: &[u64]) -> usize
+    requires { at ≤ length out.old }
+    ensures { Put out.old out.new at result words.now }
+{
+    let mut end = at;
+    for word in words {
+        end = put_word(out, end, *word);
+    }
+    end
 }
 
 // A refusal: its number, and no words.
 pub(crate) fn refuse(out: &mut [u64], error: Error) -> u64
     ensures { Says (number_of error) [] out.old out.new result }
 {
-    clear_words(out, 0);
+    fill(out, 0, 0);
     error.number()
 }
 
-pub(crate) fn give1(out: &mut [u64], a: u64) -> u64
-    ensures { Says 0 (a ∷ []) out.old out.new result }
+// Zeros behind the words of an answer, which end at `end`, and its status.
+pub(crate) fn finish(out: &mut [u64], end: usize) -> u64
+    ensures status { result ≡ 0 }
+    ensures words { out.new ≡ take end out.old ++ replicate (length out.old - end) 0 }
 {
-    let end = put(out, 0, a);
-    clear_words(out, end);
+    fill(out, end, 0);
     0
 }
 
-pub(crate) fn put2(out: &mut [u64], at: usize, a: u64, b: u64) -> usize
-    requires { at ≤ length out.old }
-    ensures { Put out.old out.new at result (a ∷ b ∷ []) }
+// The words of an answer, zeros behind them, and its status.
+pub(crate) fn give(out: &mut [u64], words: &[u64]) -> u64
+    ensures { Says 0 words.now out.old out.new result }
 {
-    let first = put(out, at, a);
-    put(out, first, b)
-}
-
-pub(crate) fn put3(out: &mut [u64], at: usize, a: u64, b: u64, c: u64) -> usize
-    requires { at ≤ length out.old }
-    ensures { Put out.old out.new at result (a ∷ b ∷ c ∷ []) }
-{
-    let first = put2(out, at, a, b);
-    put(out, first, c)
-}
-
-fn put4(out: &mut [u64], at: usize, a: u64, b: u64, c: u64, d: u64) -> usize
-    requires { at ≤ length out.old }
-    ensures { Put out.old out.new at result (a ∷ b ∷ c ∷ d ∷ []) }
-{
-    let first = put2(out, at, a, b);
-    put2(out, first, c, d)
-}
-
-pub(crate) fn put5(out: &mut [u64], at: usize, a: u64, b: u64, c: u64, d: u64, e: u64) -> usize
-    requires { at ≤ length out.old }
-    ensures { Put out.old out.new at result (a ∷ b ∷ c ∷ d ∷ e ∷ []) }
-{
-    let first = put3(out, at, a, b, c);
-    put2(out, first, d, e)
-}
-
-fn put6(out: &mut [u64], at: usize, a: u64, b: u64, c: u64, d: u64, e: u64, f: u64) -> usize
-    requires { at ≤ length out.old }
-    ensures { Put out.old out.new at result (a ∷ b ∷ c ∷ d ∷ e ∷ f ∷ []) }
-{
-    let first = put3(out, at, a, b, c);
-    put3(out, first, d, e, f)
-}
-
-pub(crate) fn give2(out: &mut [u64], a: u64, b: u64) -> u64
-    ensures { Says 0 (a ∷ b ∷ []) out.old out.new result }
-{
-    let end = put2(out, 0, a, b);
-    clear_words(out, end);
-    0
-}
-
-pub(crate) fn give3(out: &mut [u64], a: u64, b: u64, c: u64) -> u64
-    ensures { Says 0 (a ∷ b ∷ c ∷ []) out.old out.new result }
-{
-    let end = put3(out, 0, a, b, c);
-    clear_words(out, end);
-    0
-}
-
-pub(crate) fn give4(out: &mut [u64], a: u64, b: u64, c: u64, d: u64) -> u64
-    ensures { Says 0 (a ∷ b ∷ c ∷ d ∷ []) out.old out.new result }
-{
-    let end = put4(out, 0, a, b, c, d);
-    clear_words(out, end);
-    0
-}
-
-pub(crate) fn give6(out: &mut [u64], a: u64, b: u64, c: u64, d: u64, e: u64, f: u64) -> u64
-    ensures { Says 0 (a ∷ b ∷ c ∷ d ∷ e ∷ f ∷ []) out.old out.new result }
-{
-    let end = put6(out, 0, a, b, c, d, e, f);
-    clear_words(out, end);
-    0
+    let end = put(out, 0, words);
+    finish(out, end)
 }
 
 pub(crate) fn put_attribute(out: &mut [u64], at: usize, attribute: Attribute) -> usize
     requires { at ≤ length out.old }
     ensures { Put out.old out.new at result (attribute_words (view_attribute attribute)) }
 {
-    let value = attribute.value;
-    let numbers = value.numbers();
-    let kind = numbers.kind;
-    let case = kind.case();
-    let mark = bit_of(attribute.padded);
-    put6(
+    let numbers = attribute.value.numbers();
+    put(
         out,
         at,
-        attribute.name as u64,
-        attribute.form as u64,
-        case.number as u64,
-        numbers.low,
-        numbers.high,
-        mark,
+        &[
+            u64::from(attribute.name),
+            u64::from(attribute.form),
+            u64::from(numbers.kind.case().number),
+            numbers.low,
+            numbers.high,
+            u64::from(attribute.padded),
+        ],
     )
 }
 
-// The values that an entry has.
-fn put_attributes(out: &mut [u64], at: usize, entry: Entry) -> usize
+fn put_attributes(out: &mut [u64], at: usize, attributes: &[Attribute]) -> usize
     requires { at ≤ length out.old }
-    ensures { Put out.old out.new at result (attributes_words (take entry.count (map view_attribute entry.attrs))) }
+    ensures { Put out.old out.new at result (attributes_words (map view_attribute attributes.now)) }
 {
-    let attrs = entry.attrs;
-    let count = entry.count;
     let mut end = at;
-    let mut i: usize = 0;
-    while i < 64 {
-        if count <= i {
-            return end;
-        }
-        let attribute = attrs[i];
-        end = put_attribute(out, end, attribute);
-        i += 1;
+    for attribute in attributes {
+        end = put_attribute(out, end, *attribute);
     }
     end
 }
 
 // An entry's words; none are stored where there is no room for the first. Callers ask for that room
-// themselves before they hand the entry over, which copies it.
+// themselves before they hand the entry over, which copies it; lent, it was copied at every call.
 pub(crate) fn put_entry(out: &mut [u64], at: usize, entry: Entry) -> usize
     requires { at ≤ length out.old }
     ensures { Put out.old out.new at result (entry_words (view_entry entry)) }
@@ -196,16 +126,18 @@ pub(crate) fn put_entry(out: &mut [u64], at: usize, entry: Entry) -> usize
     if out.len() <= at {
         return at;
     }
-    let depth = to_word(entry.depth);
-    let children = bit_of(entry.has_children);
-    let head = put5(
+    let head = put(
         out,
         at,
-        entry.offset as u64,
-        depth,
-        entry.tag as u64,
-        children,
-        entry.count as u64,
+        &[
+            entry.offset as u64,
+            to_word(entry.depth),
+            u64::from(entry.tag),
+            u64::from(entry.has_children),
+            entry.count as u64,
+        ],
     );
-    put_attributes(out, head, entry)
+    let attrs = entry.attrs.as_slice();
+    let held = entry.count.min(attrs.len());
+    put_attributes(out, head, &attrs[..held])
 }

@@ -1,149 +1,79 @@
 // The raw reader's calls, one after another.
 
 ghost use Rattle.std.specs.Prelude.{◌≡◌, ◌≤◌, length};
+ghost use Rattle.reader.specs.Views.{view};
 ghost use Rattle.abbrev.specs.Table.{entry_limit};
-ghost use Rattle.abbrev.specs.Views.{found_of};
-ghost use Rattle.entries.specs.Raw.{moved_to, opened, raw_entry};
-ghost use Rattle.entries.specs.Views.{view_raw_entry, view_said, view_next};
-ghost use Rattle.lent.specs.Calls.{skip_values};
-ghost use Rattle.capi.specs.Calls.{answer_words, read_step, stepped_words, skip_step, passed_step, no_entry, raw_call, raw_calls};
+ghost use Rattle.entries.specs.Raw.{opened, raw_entry};
+ghost use Rattle.entries.specs.Views.{view_raw_entry};
+ghost use Rattle.capi.specs.Calls.{read_step, stepped_words, skip_step, raw_call, raw_calls};
 ghost use Rattle.capi.specs.Views.{view_passed, StepAs};
 ghost use Rattle.capi.specs.Words.{Gives, encoding_of, endian_of, Put};
 
-use super::cursor::{put_answer, put_raw};
-use super::out::{bit_of, encoding_of, endian_of, put_entry, put2, put3, refuse};
+use super::cursor::put_state;
+use super::out::{encoding_of, endian_of, finish, put, put_entry, refuse};
 use abbrev::lookup::Abbreviation;
-use entries::cursor::Next;
-use entries::raw::{Coded, EntriesRaw, Opened, Outcome, RawEntry, Said};
+use entries::raw::{EntriesRaw, RawEntry};
 use lent::held::{read_abbreviation, read_entry, skip_attributes};
 use reader::common::Encoding;
 use reader::endianity::RunTimeEndian;
-use reader::fill::clear_words;
+use reader::error::Error;
 
-// What was passed by read_abbreviation and skip_attributes, and the state.
-#[derive(Clone, Copy)]
-pub struct Passed {
-    pub answer: Next,
-    pub raw: EntriesRaw,
-    pub tag: u16,
-    pub has_children: bool,
-    pub count: usize,
-}
-
-// No entry was passed.
-fn none(answer: Next, raw: EntriesRaw) -> Passed
-    ensures { view_passed result ≡ no_entry (view_next answer) raw }
-{
-    Passed {
-        answer,
-        raw,
-        tag: 0,
-        has_children: false,
-        count: 0,
-    }
-}
-
-// The values of a found row. Where they are refused, the state goes back to the place and depth that the
-// call was given.
-fn skip_values(
+// read_abbreviation and skip_attributes, on a lent state: the abbreviation, none for a null, and the state behind
+// the values. There is no second way that makes them by value: a function that is called in one place only is inlined.
+#[tactic(auto, unfolding(lent::specs::Calls::skipped_call))]
+fn skip(
     raw: EntriesRaw,
-    position: usize,
-    depth: i64,
     bytes: &[u8],
+    rows: &[u64],
     specs: &[u64],
-    found: Abbreviation,
-) -> Passed
-    ensures { view_passed result ≡ passed_step (skip_values entry_limit.most bytes.now specs.now (moved_to raw position depth) raw (found_of found)) }
+) -> Result<(Option<Abbreviation>, EntriesRaw), Error>
+    ensures { view_passed raw result ≡ skip_step entry_limit.most bytes.now rows.now specs.now raw }
 {
-    let skipped = skip_attributes(raw, bytes, found, specs);
-    let answer = skipped.answer;
-    let after = skipped.raw;
-    match answer {
-        Outcome::Done => Passed {
-            answer: Next::Held,
-            raw: after,
-            tag: found.tag,
-            has_children: found.has_children,
-            count: found.count,
-        },
-        Outcome::Refused(e) => {
-            let mut given = after;
-            given.position = position;
-            given.depth = depth;
-            none(Next::Refused(e), given)
-        }
-    }
-}
-
-// read_abbreviation and skip_attributes, on a lent state. There is no second way that makes them by value: a
-// function that is called in one place only is inlined.
-fn skip(raw: EntriesRaw, bytes: &[u8], rows: &[u64], specs: &[u64]) -> Passed
-    ensures { view_passed result ≡ skip_step entry_limit.most bytes.now rows.now specs.now raw }
-{
-    let position = raw.position;
-    let depth = raw.depth;
     let read = read_abbreviation(raw, bytes, rows, specs);
-    let answer = read.answer;
-    let after = read.raw;
-    match answer {
-        Coded::Found(found) => skip_values(after, position, depth, bytes, specs, found),
-        Coded::Null => none(Next::NoMore, after),
-        Coded::Refused(e) => none(Next::Refused(e), after),
-    }
-}
-
-fn put_passed(out: &mut [u64], at: usize, passed: Passed) -> usize
-    requires { at ≤ length out.old }
-    ensures { Put out.old out.new at result (stepped_words (view_passed passed)) }
-{
-    let answer = passed.answer;
-    let raw = passed.raw;
-    let children = bit_of(passed.has_children);
-    let first = put_answer(out, at, answer);
-    let second = put_raw(out, first, raw);
-    put3(
-        out,
-        second,
-        passed.tag as u64,
-        children,
-        passed.count as u64,
-    )
-}
-
-fn put_said(out: &mut [u64], at: usize, said: Said) -> usize
-    requires { at ≤ length out.old }
-    ensures { Put out.old out.new at result (answer_words (view_said said)) }
-{
-    match said {
-        Said::Entry => put2(out, at, 0, 1),
-        Said::Null => put2(out, at, 0, 0),
-        Said::Refused(e) => put2(out, at, e.number(), 0),
-    }
+    let Some(found) = read.answer? else {
+        return Ok((None, read.raw));
+    };
+    let skipped = skip_attributes(read.raw, bytes, found, specs);
+    skipped.answer?;
+    Ok((Some(found), skipped.raw))
 }
 
 fn put_read(out: &mut [u64], at: usize, read: RawEntry) -> usize
     requires { at ≤ length out.old }
     ensures { Put out.old out.new at result (stepped_words (read_step (view_raw_entry read))) }
 {
-    let said = read.answer;
-    let raw = read.raw;
-    let first = put_said(out, at, said);
-    let second = put_raw(out, first, raw);
-    if out.len() <= second {
-        return second;
+    let state = put_state(out, at, read.answer, read.raw);
+    if out.len() <= state {
+        return state;
     }
-    let entry = read.entry;
-    put_entry(out, second, entry)
+    put_entry(out, state, read.entry)
 }
 
 // The state after a call, and where its words end.
-#[derive(Clone, Copy)]
+#[derive(Clone, Copy, Debug, PartialEq, Eq)]
 pub struct Step {
     pub raw: EntriesRaw,
     pub end: usize,
 }
 
-// read_entry, by value or on a lent state. What it needs for an entry is not set up where values are skipped.
+// What a call says, the state that it leaves, and the words of what was passed.
+fn put_step(
+    out: &mut [u64],
+    at: usize,
+    answer: Result<bool, Error>,
+    raw: EntriesRaw,
+    words: &[u64],
+) -> Step
+    requires { at ≤ length out.old }
+    ensures { StepAs (record { answer = view answer; raw = raw; words = words.now }) out.old out.new at result }
+{
+    let state = put_state(out, at, answer, raw);
+    let end = put(out, state, words);
+    Step { raw, end }
+}
+
+// read_entry, by value or on a lent state: a flag, since a function in its place would need its law in the `requires` of
+// all that hand it on. What an entry needs is not set up where values are skipped.
 fn read(
     raw: EntriesRaw,
     bytes: &[u8],
@@ -162,8 +92,36 @@ fn read(
         raw.read_entry(bytes, rows, specs)
     };
     let end = put_read(out, at, read);
-    let after = read.raw;
-    Step { raw: after, end }
+    Step { raw: read.raw, end }
+}
+
+// `skip`. Words: tag, children and count of the entry that was passed, zeros where none was.
+fn pass(
+    raw: EntriesRaw,
+    bytes: &[u8],
+    rows: &[u64],
+    specs: &[u64],
+    out: &mut [u64],
+    at: usize,
+) -> Step
+    requires { at ≤ length out.old }
+    ensures { StepAs (skip_step entry_limit.most bytes.now rows.now specs.now raw) out.old out.new at result }
+{
+    match skip(raw, bytes, rows, specs) {
+        Ok((Some(found), after)) => put_step(
+            out,
+            at,
+            Ok(true),
+            after,
+            &[
+                u64::from(found.tag),
+                u64::from(found.has_children),
+                found.count as u64,
+            ],
+        ),
+        Ok((None, after)) => put_step(out, at, Ok(false), after, &[0, 0, 0]),
+        Err(e) => put_step(out, at, Err(e), raw, &[0, 0, 0]),
+    }
 }
 
 // One call: 0 is read_entry, any other number read_abbreviation and skip_attributes.
@@ -183,12 +141,10 @@ fn call(
     if op == 0 {
         return read(raw, bytes, rows, specs, out, at, is_lent);
     }
-    let passed = skip(raw, bytes, rows, specs);
-    let end = put_passed(out, at, passed);
-    let after = passed.raw;
-    Step { raw: after, end }
+    pass(raw, bytes, rows, specs, out, at)
 }
 
+#[tactic(auto, unfolding(crate::specs::Calls::raw_calls))]
 fn run(
     raw: EntriesRaw,
     bytes: &[u8],
@@ -201,19 +157,17 @@ fn run(
     ensures { Put out.old out.new 0 result (raw_calls entry_limit.most bytes.now rows.now specs.now calls.now raw) }
 {
     let mut held = raw;
-    let mut end: usize = 0;
-    let mut i: usize = 0;
-    while i < calls.len() {
-        let op = calls[i];
-        let next = call(held, op, bytes, rows, specs, out, end, is_lent);
+    let mut end = 0;
+    for op in calls {
+        let next = call(held, *op, bytes, rows, specs, out, end, is_lent);
         end = next.end;
         held = next.raw;
-        i += 1;
     }
     end
 }
 
 // Opens a reader and makes the calls.
+#[tactic(auto, using(crate::proofs::OutLaws::said))]
 fn open_and_run(
     bytes: &[u8],
     start: usize,
@@ -228,12 +182,11 @@ fn open_and_run(
     ensures { Gives (raw_calls entry_limit.most bytes.now rows.now specs.now calls.now) (opened (length bytes.now) start encoding endian) out.old out.new result }
 {
     match EntriesRaw::new(bytes, start, encoding, endian) {
-        Opened::Got(raw) => {
+        Ok(raw) => {
             let end = run(raw, bytes, rows, specs, calls, out, is_lent);
-            clear_words(out, end);
-            0
+            finish(out, end)
         }
-        Opened::Refused(e) => refuse(out, e),
+        Err(e) => refuse(out, e),
     }
 }
 

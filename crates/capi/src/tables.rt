@@ -5,10 +5,9 @@ ghost use Rattle.abbrev.specs.Table.{entry_limit};
 ghost use Rattle.capi.specs.Tables.{TabledAs};
 ghost use Rattle.capi.specs.Words.{Gives, if_there, found_words};
 
-use super::out::{bit_of, give1, put, put5, refuse};
-use abbrev::lookup::{Lookup, get};
-use abbrev::table::{Abbreviations, DebugAbbrev};
-use reader::fill::clear_words;
+use super::out::{give, refuse};
+use abbrev::lookup::get;
+use abbrev::table::DebugAbbrev;
 
 // The table at an offset of .debug_abbrev into the rows, which are zero after a refusal. Words: how
 // many abbreviations it has.
@@ -22,8 +21,8 @@ pub fn tehkumir_abbreviations(
     ensures { TabledAs section.now offset rows.old specs.old rows.new specs.new out.old out.new result }
 {
     match DebugAbbrev::abbreviations(section, offset, rows, specs) {
-        Abbreviations::Got(count) => give1(out, count as u64),
-        Abbreviations::Refused(e) => refuse(out, e),
+        Ok(count) => give(out, &[count as u64]),
+        Err(e) => refuse(out, e),
     }
 }
 
@@ -32,22 +31,18 @@ pub fn tehkumir_get(rows: &[u64], specs: &[u64], code: u64, out: &mut [u64]) -> 
     ensures { Gives (if_there found_words) (lookup entry_limit.most rows.now specs.now code) out.old out.new result }
 {
     match get(rows, specs, code) {
-        Lookup::Found(found) => {
-            let children = bit_of(found.has_children);
-            let first = put(out, 0, 1);
-            let end = put5(
-                out,
-                first,
+        Ok(Some(found)) => give(
+            out,
+            &[
+                1,
                 found.code,
-                found.tag as u64,
-                children,
+                u64::from(found.tag),
+                u64::from(found.has_children),
                 found.first as u64,
                 found.count as u64,
-            );
-            clear_words(out, end);
-            0
-        }
-        Lookup::Absent => give1(out, 0),
-        Lookup::Refused(e) => refuse(out, e),
+            ],
+        ),
+        Ok(None) => give(out, &[0]),
+        Err(e) => refuse(out, e),
     }
 }

@@ -1,25 +1,23 @@
 // Unit headers, the lists of units, an entry by its offset, and a type by its signature.
 
+ghost use Rattle.reader.specs.Views.{view};
 ghost use Rattle.abbrev.specs.Table.{entry_limit};
 ghost use Rattle.unit.specs.Header.{type_number};
-ghost use Rattle.unit.specs.Parse.{debug_info, debug_types, header_at};
+ghost use Rattle.unit.specs.Parse.{debug_info, debug_types, section_of, header_at};
 ghost use Rattle.unit.specs.Units.{next_unit};
-ghost use Rattle.unit.specs.Views.{view_next_in};
 ghost use Rattle.capi.specs.Words.{Says, Gives, status_of, endian_of, type_words, header_words, entry_words, advanced_words, read_header_words, Put};
-ghost use Rattle.entries.specs.Views.{view_entry_at};
-ghost use Rattle.capi.specs.Units.{entry_or, entry_in, type_or, type_unit_words, TypeReadAs};
-ghost use Rattle.typeunit.specs.Views.{view_type_entry};
-ghost use Rattle.std.specs.Prelude.{◌∷◌, ◌≤◌, length};
+ghost use Rattle.entries.specs.Views.{view_entry};
+ghost use Rattle.capi.specs.Units.{unit_in, HandedUnit, entry_in, type_unit_words, TypeReadAs};
+ghost use Rattle.std.specs.Prelude.{◌≡◌, ◌∷◌, ◌≤◌, length};
 
-use super::out::{endian_of, put, put_entry, put2, put3, put5, refuse};
-use entries::open::{EntryAt, UnitAt, entry};
-use entries::raw::Outcome;
+use super::out::{endian_of, finish, give, put, put_entry, refuse};
+use entries::open::{EntryAt, entry};
+use reader::endianity::RunTimeEndian;
 use reader::error::Error;
-use reader::fill::clear_words;
-use typeunit::types::{TypeEntry, type_entry};
+use typeunit::types::type_entry;
 use unit::header::{UnitHeader, UnitType};
-use unit::parse::{Header, SectionId};
-use unit::units::{DebugInfo, NextIn, NextUnit, next_in};
+use unit::parse::SectionId;
+use unit::units::UnitHeadersIter;
 
 // The number of a unit's type and what only that type has.
 fn put_type(out: &mut [u64], at: usize, unit_type: UnitType) -> usize
@@ -27,12 +25,12 @@ fn put_type(out: &mut [u64], at: usize, unit_type: UnitType) -> usize
     ensures { Put out.old out.new at result (type_number unit_type ∷ type_words unit_type) }
 {
     match unit_type {
-        UnitType::Compilation => put(out, at, 1),
-        UnitType::Type(signature, offset) => put3(out, at, 2, signature, offset),
-        UnitType::Partial => put(out, at, 3),
-        UnitType::Skeleton(id) => put2(out, at, 4, id),
-        UnitType::SplitCompilation(id) => put2(out, at, 5, id),
-        UnitType::SplitType(signature, offset) => put3(out, at, 6, signature, offset),
+        UnitType::Compilation => put(out, at, &[1]),
+        UnitType::Type(signature, offset) => put(out, at, &[2, signature, offset]),
+        UnitType::Partial => put(out, at, &[3]),
+        UnitType::Skeleton(id) => put(out, at, &[4, id]),
+        UnitType::SplitCompilation(id) => put(out, at, &[5, id]),
+        UnitType::SplitType(signature, offset) => put(out, at, &[6, signature, offset]),
     }
 }
 
@@ -40,59 +38,57 @@ fn put_header(out: &mut [u64], at: usize, header: UnitHeader) -> usize
     requires { at ≤ length out.old }
     ensures { Put out.old out.new at result (header_words header) }
 {
-    let encoding = header.encoding;
-    let format = encoding.format;
-    let unit_type = header.unit_type;
-    let word = format.word_size();
-    let size = header.size_of_header();
-    let first = put5(
+    let fields = put(
         out,
         at,
-        header.offset as u64,
-        header.unit_length,
-        encoding.version as u64,
-        word as u64,
-        encoding.address_size as u64,
+        &[
+            header.offset as u64,
+            header.unit_length,
+            u64::from(header.encoding.version),
+            u64::from(header.encoding.format.word_size()),
+            u64::from(header.encoding.address_size),
+            header.debug_abbrev_offset,
+            header.size_of_header() as u64,
+        ],
     );
-    let second = put2(out, first, header.debug_abbrev_offset, size as u64);
-    put_type(out, second, unit_type)
+    put_type(out, fields, header.unit_type)
 }
 
 // The header at an offset of .debug_info. Words: its fields, as `header_words` lists them.
+#[tactic(auto, using(crate::proofs::OutLaws::said))]
 pub fn tehkumir_unit_header(section: &[u8], offset: u64, is_big: bool, out: &mut [u64]) -> u64
     ensures { Gives read_header_words (header_at debug_info section.now offset (endian_of is_big)) out.old out.new result }
 {
-    let endian = endian_of(is_big);
-    match DebugInfo::header_from_offset(section, offset, endian) {
-        Header::Got(header, _) => {
+    match SectionId::DebugInfo.header_from_offset(section, offset, endian_of(is_big)) {
+        Ok((header, _)) => {
             let end = put_header(out, 0, header);
-            clear_words(out, end);
-            0
+            finish(out, end)
         }
-        Header::Refused(e) => refuse(out, e),
+        Err(e) => refuse(out, e),
     }
 }
 
-// Where the list of units goes on, then 1 and the header, or 0 after the last.
-fn give_next(out: &mut [u64], next: NextIn) -> u64
-    ensures { Says (status_of (view_next_in next).answer) (advanced_words (view_next_in next)) out.old out.new result }
+// The list of units of a section. Words: where it goes on, then 1 and the header, or 0 after the last.
+fn next_unit(
+    id: SectionId,
+    section: &[u8],
+    at: usize,
+    endian: RunTimeEndian,
+    out: &mut [u64],
+) -> u64
+    ensures { Says (status_of (next_unit (section_of id) section.now at endian).answer) (advanced_words (next_unit (section_of id) section.now at endian)) out.old out.new result }
 {
-    let unit = next.unit;
-    let first = put(out, 0, next.offset as u64);
-    match unit {
-        NextUnit::Header(header) => {
-            let second = put(out, first, 1);
-            let end = put_header(out, second, header);
-            clear_words(out, end);
-            0
+    let next = UnitHeadersIter { id, offset: at }.next(section, endian);
+    let offset = next.units.offset as u64;
+    match next.unit {
+        Ok(Some(header)) => {
+            let first = put(out, 0, &[offset, 1]);
+            let end = put_header(out, first, header);
+            finish(out, end)
         }
-        NextUnit::NoMore => {
-            let none = put(out, first, 0);
-            clear_words(out, none);
-            0
-        }
-        NextUnit::Refused(e) => {
-            clear_words(out, first);
+        Ok(None) => give(out, &[offset, 0]),
+        Err(e) => {
+            give(out, &[offset]);
             e.number()
         }
     }
@@ -103,37 +99,47 @@ fn give_next(out: &mut [u64], next: NextIn) -> u64
 pub fn tehkumir_next_unit(section: &[u8], at: usize, is_big: bool, out: &mut [u64]) -> u64
     ensures { Says (status_of (next_unit debug_info section.now at (endian_of is_big)).answer) (advanced_words (next_unit debug_info section.now at (endian_of is_big))) out.old out.new result }
 {
-    let endian = endian_of(is_big);
-    let next = next_in(SectionId::DebugInfo, section, at, endian);
-    give_next(out, next)
+    next_unit(SectionId::DebugInfo, section, at, endian_of(is_big), out)
 }
 
 // The same list of .debug_types.
 pub fn tehkumir_types_next_unit(section: &[u8], at: usize, is_big: bool, out: &mut [u64]) -> u64
     ensures { Says (status_of (next_unit debug_types section.now at (endian_of is_big)).answer) (advanced_words (next_unit debug_types section.now at (endian_of is_big))) out.old out.new result }
 {
-    let endian = endian_of(is_big);
-    let next = next_in(SectionId::DebugTypes, section, at, endian);
-    give_next(out, next)
+    next_unit(SectionId::DebugTypes, section, at, endian_of(is_big), out)
 }
 
-fn give_entry(out: &mut [u64], read: EntryAt) -> u64
-    ensures { Gives entry_words (entry_or (view_entry_at read)) out.old out.new result }
+// The header of the unit at `unit` of .debug_info, and the unit's bytes.
+#[tactic(auto, unfolding(crate::specs::Units::unit_in))]
+pub(crate) fn unit_in(
+    section: &[u8],
+    unit: u64,
+    endian: RunTimeEndian,
+) -> Result<(UnitHeader, &[u8]), Error>
+    ensures { HandedUnit (unit_in section.now unit endian) result }
 {
-    let answer = read.answer;
-    let entry = read.entry;
-    match answer {
-        Outcome::Done => {
-            let end = put_entry(out, 0, entry);
-            clear_words(out, end);
-            0
+    let (header, _) = SectionId::DebugInfo.header_from_offset(section, unit, endian)?;
+    let bytes = header.bytes(section)?;
+    Ok((header, bytes))
+}
+
+// An entry that was read: as a value of a Result it is copied once more, which is slower.
+#[tactic(auto, using(crate::proofs::OutLaws::said))]
+fn give_entry(out: &mut [u64], read: EntryAt) -> u64
+    ensures { Gives (λ _. entry_words (view_entry read.entry)) (view read.answer) out.old out.new result }
+{
+    match read.answer {
+        Ok(()) => {
+            let end = put_entry(out, 0, read.entry);
+            finish(out, end)
         }
-        Outcome::Refused(e) => refuse(out, e),
+        Err(e) => refuse(out, e),
     }
 }
 
 // The entry at an offset of the unit at `unit` of .debug_info, with the unit's table in the rows.
 // Words: the entry.
+#[tactic(auto, unfolding(crate::specs::Units::entry_in, crate::specs::Units::unit_in))]
 pub fn tehkumir_entry(
     section: &[u8],
     unit: u64,
@@ -146,33 +152,12 @@ pub fn tehkumir_entry(
     ensures { Gives entry_words (entry_in entry_limit.most section.now unit offset (endian_of is_big) rows.now specs.now) out.old out.new result }
 {
     let endian = endian_of(is_big);
-    match DebugInfo::header_from_offset(section, unit, endian) {
-        Header::Got(header, _) => {
-            let mut refusal: u64 = 0;
-            let bytes = header.bytes(section, &mut refusal);
-            if refusal == 0 {
-                let read = entry(header, bytes, rows, specs, offset, endian);
-                return give_entry(out, read);
-            }
-            refuse(out, Error::OffsetOutOfBounds)
+    match unit_in(section, unit, endian) {
+        Ok((header, bytes)) => {
+            let read = entry(header, bytes, rows, specs, offset, endian);
+            give_entry(out, read)
         }
-        Header::Refused(e) => refuse(out, e),
-    }
-}
-
-fn give_type(out: &mut [u64], read: TypeEntry) -> u64
-    ensures { Gives type_unit_words (type_or (view_type_entry read)) out.old out.new result }
-{
-    let answer = read.answer;
-    let entry = read.entry;
-    match answer {
-        UnitAt::Got(header) => {
-            let first = put_header(out, 0, header);
-            let end = put_entry(out, first, entry);
-            clear_words(out, end);
-            0
-        }
-        UnitAt::Refused(e) => refuse(out, e),
+        Err(e) => refuse(out, e),
     }
 }
 
@@ -189,7 +174,13 @@ pub fn tehkumir_type_entry(
 ) -> u64
     ensures { TypeReadAs abbrevs.now types.now signature (endian_of is_big) rows.old specs.old rows.new specs.new out.old out.new result }
 {
-    let endian = endian_of(is_big);
-    let read = type_entry(types, signature, abbrevs, endian, rows, specs);
-    give_type(out, read)
+    let read = type_entry(types, signature, abbrevs, endian_of(is_big), rows, specs);
+    match read.answer {
+        Ok(header) => {
+            let first = put_header(out, 0, header);
+            let end = put_entry(out, first, read.entry);
+            finish(out, end)
+        }
+        Err(e) => refuse(out, e),
+    }
 }

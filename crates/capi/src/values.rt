@@ -3,10 +3,9 @@
 ghost use Rattle.attribute.specs.Attributes.{read_attribute};
 ghost use Rattle.capi.specs.Words.{Gives, encoding_of, endian_of, specification_by, read_attribute_words};
 
-use super::out::{encoding_of, endian_of, put, put_attribute, refuse};
+use super::out::{encoding_of, endian_of, finish, put, put_attribute, refuse};
 use abbrev::lookup::AttributeSpecification;
-use attribute::parse::{Parsed, parse_attribute};
-use reader::fill::clear_words;
+use attribute::parse::parse_attribute;
 
 // The value at `at` by its specification, in a part of a unit that starts at the offset `start`. Words:
 // the next place, then name, form, the number of the case, its two numbers and the mark.
@@ -26,19 +25,17 @@ pub fn tehkumir_read_attribute(
     ensures { Gives read_attribute_words (read_attribute bytes.now start (encoding_of version is_64 width) (endian_of is_big) (specification_by name form constant) at) out.old out.new result }
 {
     let encoding = encoding_of(version, is_64, width);
-    let endian = endian_of(is_big);
     let spec = AttributeSpecification {
         name,
         form,
         constant,
     };
-    match parse_attribute(bytes, start, at, encoding, endian, spec) {
-        Parsed::Got(attribute, next) => {
-            let first = put(out, 0, next as u64);
+    match parse_attribute(bytes, start, at, encoding, endian_of(is_big), spec) {
+        Ok((attribute, next)) => {
+            let first = put(out, 0, &[next as u64]);
             let end = put_attribute(out, first, attribute);
-            clear_words(out, end);
-            0
+            finish(out, end)
         }
-        Parsed::Refused(e) => refuse(out, e),
+        Err(e) => refuse(out, e),
     }
 }

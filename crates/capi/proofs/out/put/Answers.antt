@@ -1,8 +1,8 @@
-use Rattle.capi.proofs.OutLaws.{put_one, put_full}
+use Rattle.std.proofs.lemmas.List.{drop_more}
+use Rattle.capi.proofs.OutLaws.{running_more}
 use Rattle.capi.proofs.out.put.Goals as goal
 
-pub returns-then-at-out : goal.returns-then-at-out
-returns-then-at-out c = put_one _ _ _ c.if-at-out.true
-
-pub returns : goal.returns
-returns c = put_full _ _ _ c.requires c.if-at-out.false
+pub loop-word-preserved : goal.loop-word-preserved
+loop-word-preserved c =
+    let l = c.loop-word in
+    running_more l.invariant _ _ (drop_more c.args.words.now l.word-index 0 c.loop-word-test.true) c.put_word-end.auto.out c.put_word-end.ensures

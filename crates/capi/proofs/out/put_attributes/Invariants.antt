@@ -1,9 +1,9 @@
-use Prim.Native.Nat.{◌-◌}
-use Rattle.capi.proofs.OutLaws.{Stored}
+use mathlib.Core.List.{map}
+use lib.ListN.{drop}
+use Rattle.attribute.specs.Views.{view_attribute}
+use Rattle.capi.specs.Words.{attributes_words}
+use Rattle.capi.proofs.OutLaws.{Running}
 use Rattle.capi.proofs.out.put_attributes.Given as goal
 
-abbrev pub invariant-loop-i : goal.invariant-loop-i
-invariant-loop-i l = Stored l.initial.out l.at l.attrs l.count l.out l.end l.i
-
-abbrev pub decreases-loop-i : goal.decreases-loop-i
-decreases-loop-i l = 64 - l.i
+abbrev pub invariant-loop-attribute : goal.invariant-loop-attribute
+invariant-loop-attribute l = Running l.initial.out l.at (attributes_words (map view_attribute l.attributes)) (attributes_words (map view_attribute (drop l.attribute-index l.attributes))) l.out l.end

@@ -1,22 +1,8 @@
-use native.Mathlib.Omega.{arith}
-use Rattle.capi.proofs.CallLaws.{raw_more, raw_none}
-use Rattle.capi.proofs.OutLaws.{running_begun, running_room, running_more, running_ended}
+use Rattle.std.proofs.lemmas.List.{drop_more}
+use Rattle.capi.specs.Calls.{raw_calls}
+use Rattle.capi.proofs.OutLaws.{running_more}
 use Rattle.capi.proofs.raw.run.Goals as goal
 
-pub loop-i-init : goal.loop-i-init
-loop-i-init c = running_begun _ _
-
-pub call-next-requires : goal.call-next-requires
-call-next-requires c = running_room c.loop-i.invariant
-
-pub overflow_add-i : goal.overflow_add-i
-overflow_add-i c = omega (arith, c.loop-i-test.true)
-
-pub loop-i-preserved : goal.loop-i-preserved
-loop-i-preserved c = running_more c.loop-i.invariant _ _ (raw_more _ _ _ _ _ _ c.loop-i-test.true _ _ c.call-next.ensures.raw_is) c.call-next.auto.out c.call-next.ensures.put
-
-pub shape_of-out : goal.shape_of-out
-shape_of-out c = c.loop-i.invariant.same
-
-pub returns : goal.returns
-returns c = running_ended c.loop-i.invariant (raw_none _ _ _ _ _ _ c.loop-i-test.false _)
+pub loop-op-preserved : goal.loop-op-preserved
+unfolding raw_calls
+loop-op-preserved c = running_more c.loop-op.invariant _ _ (rw (drop_more c.args.calls.now c.loop-op.op-index 0 c.loop-op-test.true, ← c.call-next.ensures.raw_is)) c.call-next.auto.out c.call-next.ensures.put

@@ -1,5 +1,6 @@
-use Rattle.capi.proofs.AnswerLaws.{typed_words}
+use Rattle.std.proofs.Common.{arith}
+use Rattle.capi.proofs.OutLaws.{said_both}
 use Rattle.capi.proofs.units.tehkumir_type_entry.Goals as goal
 
-pub returns : goal.returns
-returns c = rw (← c.endian_of-endian.ensures) (typed_words c.type_entry-read.ensures c.give_type.ensures)
+pub returns-in-Ok : goal.returns-in-Ok
+returns-in-Ok c = grind (arith, said_both c.put_header-first.ensures c.put_header-first.auto.out c.put_entry-end.ensures c.put_entry-end.auto.out c.finish.ensures.words c.finish.ensures.status)

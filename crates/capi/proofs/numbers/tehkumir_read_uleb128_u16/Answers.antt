@@ -1,4 +1,0 @@
-use Rattle.capi.proofs.numbers.tehkumir_read_uleb128_u16.Goals as goal
-
-pub returns : goal.returns
-returns c = rw (← c.read_uleb128_u16-answer.ensures) c.give_unsigned.ensures

@@ -1,4 +1,0 @@
-use Rattle.capi.proofs.units.tehkumir_next_unit.Goals as goal
-
-pub returns : goal.returns
-returns c = rw (← c.endian_of-endian.ensures, ← c.next_in-next.ensures) c.give_next.ensures
