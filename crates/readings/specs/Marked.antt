@@ -67,8 +67,3 @@ HoldsReading (unsigned w s r) = uleb_at s 0 w ≡ whole s r
 HoldsReading (signed w s r) = sleb_at s 0 w ≡ whole s r
 HoldsReading (first_unit s r) = next_unit debug_info s 0 Little ≡ record { answer = r; offset = length s }
 HoldsReading (value w f s read skipped) = (c : Encoding) (x : Specification) → Ends s (of_width w c) (of_form f x) read skipped
-
--- it holds of each
-abbrev pub All : {A : Type 0} → (A → Type 0) → List A → Type 0
-All P [] = Unit {0}
-All P (x ∷ xs) = P x × All P xs

@@ -3,7 +3,8 @@
 
 #![tactic(auto)]
 
-ghost use Rattle.readings.specs.Marked.{All, HoldsReading, marked};
+ghost use Rattle.std.specs.Prelude.{All};
+ghost use Rattle.readings.specs.Marked.{HoldsReading, marked};
 ghost use Rattle.readings.specs.Examples.{HoldsExample, examples};
 
 mod numbers; // LEB128 numbers
@@ -13,6 +14,7 @@ mod units; // units, and the example unit's entries
 mod values; // values, read and skipped
 
 // Those that are proved too: the list `marked` of specs/, in its order.
+#[tactic(auto, using(crate::proofs::Marked::all_marked))]
 fn proved(rt: &impl Print)
     ensures { All HoldsReading marked }
 {
@@ -24,11 +26,11 @@ fn proved(rt: &impl Print)
     numbers::signed(rt, b"\x80\x80\x80\x80\x80\x80\x80\x80\x80\x01");
     numbers::short(rt, b"\xff\xff\x03");
     numbers::short(rt, b"\x80\x80\x04");
-    units::first(rt, b"empty section", b"");
+    units::first(rt, "empty section", b"");
     let type_7 = b"\x08\x00\x00\x00\x05\x00\x07\x03\x00\x00\x00\x00";
-    units::first(rt, b"version 5, type 7, width 3", type_7);
-    values::both(rt, b"form 16", &[3, 0x16, 0], 8, b"\x21");
-    values::both(rt, b"form 01", &[3, 0x01, 0], 3, b"\x01\x02\x03");
+    units::first(rt, "version 5, type 7, width 3", type_7);
+    values::both(rt, "form 16", &[3, 0x16, 0], 8, b"\x21");
+    values::both(rt, "form 01", &[3, 0x01, 0], 3, b"\x01\x02\x03");
 }
 
 // The other readings, with an offset that has an entry, calls on a lent state, and the sum that would
@@ -38,12 +40,12 @@ fn others(rt: &impl Print) {
     tables::pairs(rt, 65);
     units::first(
         rt,
-        b"version 1",
+        "version 1",
         b"\x07\x00\x00\x00\x01\x00\x00\x00\x00\x00\x08",
     );
     units::first(
         rt,
-        b"version 6",
+        "version 6",
         b"\x07\x00\x00\x00\x06\x00\x00\x00\x00\x00\x08",
     );
     units::offset(rt, 10);
@@ -52,7 +54,7 @@ fn others(rt: &impl Print) {
     units::offset(rt, 19);
     units::lent_calls(rt);
     let block = b"\xff\xff\xff\xff\xff\xff\xff\xff\xff\x01\x00";
-    values::both(rt, b"forms 09 and 0b", &[3, 0x09, 0, 3, 0x0b, 0], 8, block);
+    values::both(rt, "forms 09 and 0b", &[3, 0x09, 0, 3, 0x0b, 0], 8, block);
 }
 
 // DWARF 5, section 7.6, tables 7.7 and 7.8.
@@ -73,6 +75,7 @@ fn standard(rt: &impl Print) {
 }
 
 // Document 02, request 2; those of 64 bits are proved too (specs/Examples.antt).
+#[tactic(auto, using(crate::proofs::Examples::all_examples))]
 fn padded(rt: &impl Print)
     ensures { All HoldsExample examples }
 {

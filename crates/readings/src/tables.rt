@@ -2,35 +2,28 @@
 
 ghost use Rattle.std.specs.Prelude.{◌≤◌};
 
-use crate::say;
-use abbrev::table::{Abbreviations, DebugAbbrev};
+use abbrev::table::DebugAbbrev;
+use reader::error::Error;
 
 // A table of one abbreviation with so many attributes, and what the table call answers.
-fn table(n: usize) -> Abbreviations
+fn table(n: usize) -> Result<usize, Error>
     requires { n ≤ 65 }
 {
-    let mut section = [0u8; 140];
+    let mut section = [0; 140];
     section[0] = 1;
     section[1] = 0x11;
-    let mut i: usize = 0;
-    while i < n {
-        section[3 + 2 * i] = 3;
-        section[4 + 2 * i] = 0x0b;
-        i += 1;
-    }
-    let mut rows = [0u64; 5];
-    let mut specs = [0u64; 195];
+    let (pairs, _) = section[3..3 + 2 * n].as_chunks_mut();
+    pairs.fill([3, 0x0b]);
+    let mut rows = [0; 5];
+    let mut specs = [0; 195];
     DebugAbbrev::abbreviations(&section, 0, &mut rows, &mut specs)
 }
 
 pub fn pairs(rt: &impl Print, n: usize)
     requires { n ≤ 65 }
 {
-    say::number(rt, n as u64);
-    say::text(rt, b" pairs: ");
-    match table(n) {
-        Abbreviations::Got(_) => say::text(rt, b"read"),
-        Abbreviations::Refused(e) => say::refused(rt, e),
-    }
-    say::text(rt, b"\n");
+    let _ = match table(n) {
+        Ok(_) => println!(rt; "{n} pairs: read"),
+        Err(e) => println!(rt; "{n} pairs: refused {}", e.number()),
+    };
 }

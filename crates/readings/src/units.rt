@@ -1,28 +1,24 @@
 // Units, and the example unit's entries.
 
-use crate::say;
-use entries::open::{UnitAt, entry, open_unit};
-use entries::raw::{EntriesRaw, Outcome, Said};
+use entries::open::{entry, open_unit};
+use entries::raw::EntriesRaw;
 use lent::call::call;
 use reader::endianity::RunTimeEndian;
+use reader::error::Error;
 use unit::header::UnitHeader;
-use unit::units::{DebugInfo, NextUnit};
+use unit::parse::SectionId;
 
 // The first unit of a section, under a name.
-pub fn first(rt: &impl Print, name: &[u8], section: &[u8]) {
-    say::text(rt, name);
-    say::text(rt, b": ");
-    let next = DebugInfo::units().next(section, RunTimeEndian::Little);
-    let unit = next.unit;
-    match unit {
-        NextUnit::Header(_) => say::text(rt, b"read"),
-        NextUnit::NoMore => say::text(rt, b"no unit"),
-        NextUnit::Refused(e) => say::refused(rt, e),
-    }
-    say::text(rt, b"\n");
+pub fn first(rt: &impl Print, name: &str, section: &[u8]) {
+    let units = SectionId::DebugInfo.units();
+    let _ = match units.next(section, RunTimeEndian::Little).unit {
+        Ok(Some(_)) => println!(rt; "{name}: read"),
+        Ok(None) => println!(rt; "{name}: no unit"),
+        Err(e) => println!(rt; "{name}: refused {}", e.number()),
+    };
 }
 
-// The tag of the entry at an offset, or the refusal.
+// The tag of the entry at an offset.
 fn found(
     rt: &impl Print,
     header: UnitHeader,
@@ -30,19 +26,12 @@ fn found(
     rows: &[u64],
     specs: &[u64],
     offset: usize,
-) {
-    let mut refusal: u64 = 0;
-    let unit = header.bytes(section, &mut refusal);
+) -> Result<(), Error> {
+    let unit = header.bytes(section)?;
     let at = entry(header, unit, rows, specs, offset, RunTimeEndian::Little);
-    let answer = at.answer;
-    let entry = at.entry;
-    match answer {
-        Outcome::Done => {
-            say::text(rt, b"tag ");
-            say::number(rt, entry.tag as u64);
-        }
-        Outcome::Refused(e) => say::refused(rt, e),
-    }
+    at.answer?;
+    let _ = print!(rt; "tag {}", at.entry.tag);
+    Ok(())
 }
 
 // A call on a lent state: what it says, and the state after it.
@@ -55,17 +44,11 @@ fn said(
     specs: &[u64],
 ) -> EntriesRaw {
     let read = call(raw, op, bytes, rows, specs);
-    let answer = read.answer;
-    let entry = read.entry;
-    say::text(rt, b" ");
-    match answer {
-        Said::Entry => {
-            say::text(rt, b"tag ");
-            say::number(rt, entry.tag as u64);
-        }
-        Said::Null => say::text(rt, b"null"),
-        Said::Refused(e) => say::refused(rt, e),
-    }
+    let _ = match read.answer {
+        Ok(true) => print!(rt; " tag {}", read.entry.tag),
+        Ok(false) => print!(rt; " null"),
+        Err(e) => print!(rt; " refused {}", e.number()),
+    };
     read.raw
 }
 
@@ -76,25 +59,27 @@ fn in_turn(
     section: &[u8],
     rows: &[u64],
     specs: &[u64],
-    raw: EntriesRaw,
-) {
-    let mut refusal: u64 = 0;
-    let unit = header.bytes(section, &mut refusal);
-    let bytes = header.entries_buf(unit, &mut refusal);
-    let root = said(rt, raw, 2, bytes, rows, specs);
-    let first = said(rt, root, 1, bytes, rows, specs);
-    let second = said(rt, first, 0, bytes, rows, specs);
-    let end = said(rt, second, 0, bytes, rows, specs);
-    said(rt, end, 0, bytes, rows, specs);
+    mut raw: EntriesRaw,
+) -> Result<(), Error> {
+    let unit = header.bytes(section)?;
+    let bytes = header.entries_buf(unit)?;
+    for op in [2, 1, 0, 0, 0] {
+        raw = said(rt, raw, op, bytes, rows, specs);
+    }
+    Ok(())
 }
 
 // Document 01's example unit, with the example's table read into rows: an offset in it, or calls on a
-// lent state.
-fn example(rt: &impl Print, is_lent: bool, offset: usize) {
+// lent state, or the refusal.
+fn example<F>(rt: &impl Print, use_it: F)
+where
+    F: FnOnce(UnitHeader, &[u8], &[u64], &[u64], EntriesRaw) -> Result<(), Error>,
+    requires { F.IsAlwaysCallable use_it }
+{
     let table = b"\x01\x11\x01\x03\x08\x00\x00\x02\x34\x00\x0b\x0b\x00\x00\x00";
     let section = b"\x0f\x00\x00\x00\x04\x00\x00\x00\x00\x00\x08\x01\x61\x00\x02\x05\x02\x07\x00";
-    let mut rows = [0u64; 10];
-    let mut specs = [0u64; 6];
+    let mut rows = [0; 10];
+    let mut specs = [0; 6];
     let opened = open_unit(
         section,
         0,
@@ -103,30 +88,26 @@ fn example(rt: &impl Print, is_lent: bool, offset: usize) {
         &mut rows,
         &mut specs,
     );
-    let answer = opened.answer;
-    let cursor = opened.cursor;
-    let raw = cursor.input;
-    match answer {
-        UnitAt::Got(header) => {
-            if is_lent {
-                in_turn(rt, header, section, &rows, &specs, raw);
-            } else {
-                found(rt, header, section, &rows, &specs, offset);
-            }
-        }
-        UnitAt::Refused(e) => say::refused(rt, e),
-    }
-    say::text(rt, b"\n");
+    let raw = opened.cursor.input;
+    let used = opened
+        .answer
+        .and_then(|header| use_it(header, section, &rows, &specs, raw));
+    let _ = match used {
+        Ok(()) => println!(rt),
+        Err(e) => println!(rt; "refused {}", e.number()),
+    };
 }
 
 pub fn offset(rt: &impl Print, offset: usize) {
-    say::text(rt, b"offset ");
-    say::number(rt, offset as u64);
-    say::text(rt, b" of the example: ");
-    example(rt, false, offset);
+    let _ = print!(rt; "offset {offset} of the example: ");
+    example(rt, |header, section, rows, specs, _| {
+        found(rt, header, section, rows, specs, offset)
+    });
 }
 
 pub fn lent_calls(rt: &impl Print) {
-    say::text(rt, b"the example by calls on a lent state:");
-    example(rt, true, 0);
+    let _ = print!(rt; "the example by calls on a lent state:");
+    example(rt, |header, section, rows, specs, raw| {
+        in_turn(rt, header, section, rows, specs, raw)
+    });
 }

@@ -1,6 +1,6 @@
 // Values, read and skipped.
 
-use crate::say;
+use crate::say::{Hex, Passed};
 use abbrev::lookup::Abbreviation;
 use attribute::parse::read_attributes;
 use attribute::skip::skip_attributes;
@@ -8,12 +8,7 @@ use reader::common::{Encoding, Format};
 use reader::endianity::RunTimeEndian;
 
 // Values by the words of their specifications, under a name and with an address width.
-pub fn both(rt: &impl Print, name: &[u8], specs: &[u64], width: u8, bytes: &[u8]) {
-    say::text(rt, name);
-    say::text(rt, b", width ");
-    say::number(rt, width as u64);
-    say::text(rt, b", bytes");
-    say::bytes(rt, bytes);
+pub fn both(rt: &impl Print, name: &str, specs: &[u64], width: u8, bytes: &[u8]) {
     let encoding = Encoding {
         address_size: width,
         format: Format::Dwarf32,
@@ -27,14 +22,8 @@ pub fn both(rt: &impl Print, name: &[u8], specs: &[u64], width: u8, bytes: &[u8]
         count: specs.len() / 3,
     };
     let little = RunTimeEndian::Little;
-    let read = read_attributes(bytes, 0, 0, encoding, little, row, specs);
-    let end = read.end;
-    say::text(rt, b"reading ");
-    say::passed(rt, end);
-    say::text(rt, b", skipping ");
-    say::passed(
-        rt,
-        skip_attributes(bytes, 0, 0, encoding, little, row, specs),
-    );
-    say::text(rt, b"\n");
+    let read = Passed(read_attributes(bytes, 0, 0, encoding, little, row, specs).end);
+    let skipped = Passed(skip_attributes(bytes, 0, 0, encoding, little, row, specs));
+    let bytes = Hex(bytes);
+    let _ = println!(rt; "{name}, width {width}, bytes{bytes}: reading {read}, skipping {skipped}");
 }

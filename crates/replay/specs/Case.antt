@@ -1,24 +1,19 @@
 -- The parts of a stored case.
-use Rattle.std.specs.Prelude.{◌≡◌, ℕ, ◌≤◌}
-use Rattle.replay.specs.declared.case.Parsed.{Parsed}
-use Rattle.replay.specs.declared.case.Parsed.TheVariants as P
-use Rattle.replay.specs.declared.case.Parts.{Parts}
-use Rattle.replay.specs.declared.case.Span.{Span}
-use Rattle.replay.specs.declared.case.Span.TheVariants as S
+use Rattle.std.specs.Prelude.{◌≡◌, ℕ, ◌+◌, List, [], length, take, drop}
+use Rattle.replay.specs.declared.case.Case.{Case}
 
--- what is found lies inside so many bytes
-abbrev pub SpanIn : ℕ → Span → Type 0
-SpanIn n (S.At from to) = (from ≤ to) × (to ≤ n)
-SpanIn n S.Malformed = Unit {0}
+-- bytes are a count of 4 bytes, a part and the rest
+pub record IsCounted (bytes part rest : List ℕ) : Type 0 where
+  pub part_in : part ≡ take (length part) (drop 4 bytes)
+  pub rest_in : rest ≡ drop (4 + length part) bytes
+  pub whole : 4 + length part + length rest ≡ length bytes
 
--- each part lies inside so many bytes, and the last ends there
-pub record PartsIn (n : ℕ) (p : Parts) : Type 0 where
-  pub bytes_in : (p.bytes ≤ p.bytes_end) × (p.bytes_end ≤ n)
-  pub table_in : (p.table ≤ p.table_end) × (p.table_end ≤ n)
-  pub calls_in : (p.calls ≤ p.calls_end) × (p.calls_end ≤ n)
-  pub expected_in : p.expected ≤ p.expected_end
-  pub whole : p.expected_end ≡ n
-
-abbrev pub ParsedIn : ℕ → Parsed → Type 0
-ParsedIn n (P.Got p) = PartsIn n p
-ParsedIn n P.Malformed = Unit {0}
+-- behind the kind and the numbers each part follows its count, and the last ends the case
+pub record PartsIn (body : List ℕ) (c : Case) : Type 0 where
+  pub after_bytes : List ℕ
+  pub after_table : List ℕ
+  pub after_calls : List ℕ
+  pub bytes_in : IsCounted (drop 81 body) c.bytes.now after_bytes
+  pub table_in : IsCounted after_bytes c.table.now after_table
+  pub calls_in : IsCounted after_table c.calls.now after_calls
+  pub expected_in : IsCounted after_calls c.expected.now []

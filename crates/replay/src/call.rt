@@ -1,5 +1,9 @@
-// The function that a case names, called. Numbers fit their parameters before.
+// The function that a case names, called with the case's numbers. None where a number does not fit its
+// parameter, or one that has no parameter is not 0.
 
+use crate::case::Case;
+use crate::kind::Kind;
+use crate::words;
 use capi::cursor::tehkumir_cursor;
 use capi::levels::tehkumir_tree;
 use capi::numbers::{
@@ -14,188 +18,240 @@ use capi::units::{
 };
 use capi::values::tehkumir_read_attribute;
 
-fn half(n: u64) -> u16 {
-    (n % 65536) as u16
+// The most calls or levels: as many as a case has room for.
+const MOST_CALLS: usize = 2000;
+
+// The first numbers, if the others are 0.
+fn leading<const N: usize>(numbers: &[u64; 10]) -> Option<[u64; N]> {
+    let (first, others) = numbers.split_first_chunk()?;
+    others.iter().all(|&n| n == 0).then_some(*first)
 }
 
-fn byte(n: u64) -> u8 {
-    (n % 256) as u8
+fn flag(n: u64) -> Option<bool> {
+    match n {
+        0 => Some(false),
+        1 => Some(true),
+        _ => None,
+    }
 }
 
-fn flag(n: u64) -> bool {
-    n != 0
+// What takes a place.
+fn at_place<F: Fn(&[u8], usize, &mut [u64]) -> u64>(
+    case: &Case,
+    function: F,
+    out: &mut [u64],
+) -> Option<u64>
+    requires { F.IsAlwaysCallable function }
+{
+    let [at] = leading::<1>(&case.numbers)?;
+    Some(function(case.bytes, at as usize, out))
 }
 
-// LEB128 numbers, words, initial lengths.
-fn call_reader(kind: u64, numbers: &[u64; 10], bytes: &[u8], out: &mut [u64]) -> u64 {
-    let at = numbers[0] as usize;
-    match kind {
-        0 => tehkumir_read_uleb128(bytes, at, out),
-        1 => tehkumir_read_uleb128_u16(bytes, at, out),
-        2 => tehkumir_read_sleb128(bytes, at, out),
-        3 => tehkumir_skip_leb128(bytes, at, out),
-        4 => {
-            let width = byte(numbers[1]);
-            let is_big = flag(numbers[2]);
-            tehkumir_read_word(bytes, at, width, is_big, out)
+fn read_word(case: &Case, out: &mut [u64]) -> Option<u64> {
+    let [at, width, is_big] = leading::<3>(&case.numbers)?;
+    let width = u8::try_from(width).ok()?;
+    let is_big = flag(is_big)?;
+    Some(tehkumir_read_word(case.bytes, at as usize, width, is_big, out))
+}
+
+// What takes a place and the order of the bytes.
+fn in_order<F: Fn(&[u8], usize, bool, &mut [u64]) -> u64>(
+    case: &Case,
+    function: F,
+    out: &mut [u64],
+) -> Option<u64>
+    requires { F.IsAlwaysCallable function }
+{
+    let [at, is_big] = leading::<2>(&case.numbers)?;
+    let is_big = flag(is_big)?;
+    Some(function(case.bytes, at as usize, is_big, out))
+}
+
+fn unit_header(case: &Case, out: &mut [u64]) -> Option<u64> {
+    let [offset, is_big] = leading::<2>(&case.numbers)?;
+    let is_big = flag(is_big)?;
+    Some(tehkumir_unit_header(case.bytes, offset, is_big, out))
+}
+
+fn read_attribute(case: &Case, out: &mut [u64]) -> Option<u64> {
+    let [
+        start,
+        at,
+        version,
+        is_64,
+        width,
+        is_big,
+        name,
+        form,
+        constant,
+    ] = leading::<9>(&case.numbers)?;
+    Some(tehkumir_read_attribute(
+        case.bytes,
+        start as usize,
+        at as usize,
+        u16::try_from(version).ok()?,
+        flag(is_64)?,
+        u8::try_from(width).ok()?,
+        flag(is_big)?,
+        u16::try_from(name).ok()?,
+        u16::try_from(form).ok()?,
+        constant,
+        out,
+    ))
+}
+
+// The rows of a table of abbreviations.
+#[derive(Debug, Drop)]
+struct Rows {
+    rows: [u64; 1280],
+    specs: [u64; 3072],
+}
+
+impl Rows {
+    fn new() -> Rows {
+        Rows {
+            rows: [0; 1280],
+            specs: [0; 3072],
         }
-        _ => {
-            let is_big = flag(numbers[1]);
-            tehkumir_read_initial_length(bytes, at, is_big, out)
-        }
+    }
+
+    // Filled by a section's first table.
+    fn filled(table: &[u8], out: &mut [u64]) -> Rows {
+        let mut rows = Rows::new();
+        tehkumir_abbreviations(table, 0, &mut rows.rows, &mut rows.specs, out);
+        rows
     }
 }
 
-fn call_unit(kind: u64, numbers: &[u64; 10], section: &[u8], out: &mut [u64]) -> u64 {
-    let at = numbers[0];
-    let is_big = flag(numbers[1]);
-    match kind {
-        6 => tehkumir_unit_header(section, at, is_big, out),
-        7 => tehkumir_next_unit(section, at as usize, is_big, out),
-        _ => tehkumir_types_next_unit(section, at as usize, is_big, out),
+fn abbreviations(case: &Case, out: &mut [u64]) -> Option<u64> {
+    let [offset] = leading::<1>(&case.numbers)?;
+    let mut rows = Rows::new();
+    Some(tehkumir_abbreviations(case.bytes, offset, &mut rows.rows, &mut rows.specs, out))
+}
+
+fn type_entry(case: &Case, out: &mut [u64]) -> Option<u64> {
+    let [signature, is_big] = leading::<2>(&case.numbers)?;
+    let is_big = flag(is_big)?;
+    let mut rows = Rows::new();
+    Some(tehkumir_type_entry(
+        case.bytes,
+        case.table,
+        signature,
+        is_big,
+        &mut rows.rows,
+        &mut rows.specs,
+        out,
+    ))
+}
+
+fn entry(case: &Case, out: &mut [u64]) -> Option<u64> {
+    let [unit, offset, is_big] = leading::<3>(&case.numbers)?;
+    let is_big = flag(is_big)?;
+    let rows = Rows::filled(case.table, out);
+    Some(tehkumir_entry(
+        case.bytes,
+        unit,
+        offset as usize,
+        is_big,
+        &rows.rows,
+        &rows.specs,
+        out,
+    ))
+}
+
+fn get(case: &Case, out: &mut [u64]) -> Option<u64> {
+    let [code] = leading::<1>(&case.numbers)?;
+    let rows = Rows::filled(case.table, out);
+    Some(tehkumir_get(&rows.rows, &rows.specs, code, out))
+}
+
+// What entries are read with, as the exported functions take it.
+#[derive(Clone, Copy, Debug, PartialEq, Eq)]
+struct Opening {
+    start: usize,
+    version: u16,
+    is_64: bool,
+    width: u8,
+    is_big: bool,
+}
+
+impl Opening {
+    fn of(numbers: &[u64; 10]) -> Option<Opening> {
+        let [start, version, is_64, width, is_big] = leading::<5>(numbers)?;
+        Some(Opening {
+            start: start as usize,
+            version: u16::try_from(version).ok()?,
+            is_64: flag(is_64)?,
+            width: u8::try_from(width).ok()?,
+            is_big: flag(is_big)?,
+        })
     }
 }
 
-fn call_value(numbers: &[u64; 10], bytes: &[u8], out: &mut [u64]) -> u64 {
-    let start = numbers[0] as usize;
-    let at = numbers[1] as usize;
-    let version = half(numbers[2]);
-    let is_64 = flag(numbers[3]);
-    let width = byte(numbers[4]);
-    let is_big = flag(numbers[5]);
-    let name = half(numbers[6]);
-    let form = half(numbers[7]);
-    let constant = numbers[8];
-    tehkumir_read_attribute(
-        bytes, start, at, version, is_64, width, is_big, name, form, constant, out,
-    )
+fn tree(case: &Case, out: &mut [u64]) -> Option<u64> {
+    let opening = Opening::of(&case.numbers)?;
+    let mut room = [0; MOST_CALLS];
+    let levels = words::load(case.calls, &mut room);
+    let rows = Rows::filled(case.table, out);
+    Some(tehkumir_tree(
+        case.bytes,
+        opening.start,
+        opening.version,
+        opening.is_64,
+        opening.width,
+        opening.is_big,
+        &rows.rows,
+        &rows.specs,
+        levels,
+        out,
+    ))
 }
 
-fn call_raw(
-    is_lent: bool,
-    numbers: &[u64; 10],
-    bytes: &[u8],
-    rows: &[u64],
-    specs: &[u64],
-    calls: &[u8],
-    out: &mut [u64],
-) -> u64 {
-    let start = numbers[0] as usize;
-    let version = half(numbers[1]);
-    let is_64 = flag(numbers[2]);
-    let width = byte(numbers[3]);
-    let is_big = flag(numbers[4]);
-    if is_lent {
-        return tehkumir_raw_lent(
-            bytes, start, version, is_64, width, is_big, rows, specs, calls, out,
-        );
-    }
-    tehkumir_raw(
-        bytes, start, version, is_64, width, is_big, rows, specs, calls, out,
-    )
-}
-
-fn call_cursor(
-    numbers: &[u64; 10],
-    bytes: &[u8],
-    rows: &[u64],
-    specs: &[u64],
-    calls: &[u8],
-    out: &mut [u64],
-) -> u64 {
-    let start = numbers[0] as usize;
-    let version = half(numbers[1]);
-    let is_64 = flag(numbers[2]);
-    let width = byte(numbers[3]);
-    let is_big = flag(numbers[4]);
-    tehkumir_cursor(
-        bytes, start, version, is_64, width, is_big, rows, specs, calls, out,
-    )
-}
-
-fn call_tree(
-    numbers: &[u64; 10],
-    bytes: &[u8],
-    rows: &[u64],
-    specs: &[u64],
-    levels: &[u64],
-    out: &mut [u64],
-) -> u64 {
-    let start = numbers[0] as usize;
-    let version = half(numbers[1]);
-    let is_64 = flag(numbers[2]);
-    let width = byte(numbers[3]);
-    let is_big = flag(numbers[4]);
-    tehkumir_tree(
-        bytes, start, version, is_64, width, is_big, rows, specs, levels, out,
-    )
-}
-
-// What reads rows.
-fn call_on_rows(
-    kind: u64,
-    numbers: &[u64; 10],
-    bytes: &[u8],
-    rows: &[u64],
-    specs: &[u64],
-    calls: &[u8],
-    levels: &[u64],
-    out: &mut [u64],
-) -> u64 {
-    let first = numbers[0];
-    match kind {
-        8 => {
-            let offset = numbers[1] as usize;
-            let is_big = flag(numbers[2]);
-            tehkumir_entry(bytes, first, offset, is_big, rows, specs, out)
-        }
-        10 => tehkumir_get(rows, specs, first, out),
-        12 => call_raw(false, numbers, bytes, rows, specs, calls, out),
-        13 => call_cursor(numbers, bytes, rows, specs, calls, out),
-        14 => call_tree(numbers, bytes, rows, specs, levels, out),
-        _ => call_raw(true, numbers, bytes, rows, specs, calls, out),
-    }
-}
-
-// What fills or reads rows; for the latter the abbreviation section's first table fills them.
-fn call_with_rows(
-    kind: u64,
-    numbers: &[u64; 10],
-    bytes: &[u8],
-    table: &[u8],
-    calls: &[u8],
-    levels: &[u64],
-    out: &mut [u64],
-) -> u64 {
-    let mut rows = [0u64; 1280];
-    let mut specs = [0u64; 3072];
-    if kind == 9 {
-        let offset = numbers[0];
-        return tehkumir_abbreviations(bytes, offset, &mut rows, &mut specs, out);
-    }
-    if kind == 17 {
-        let signature = numbers[0];
-        let is_big = flag(numbers[1]);
-        return tehkumir_type_entry(bytes, table, signature, is_big, &mut rows, &mut specs, out);
-    }
-    tehkumir_abbreviations(table, 0, &mut rows, &mut specs, out);
-    call_on_rows(kind, numbers, bytes, &rows, &specs, calls, levels, out)
+// What takes calls of one byte.
+fn by_calls<F>(case: &Case, function: F, out: &mut [u64]) -> Option<u64>
+where
+    F: Fn(&[u8], usize, u16, bool, u8, bool, &[u64], &[u64], &[u8], &mut [u64]) -> u64,
+    requires { F.IsAlwaysCallable function }
+{
+    let opening = Opening::of(&case.numbers)?;
+    let mut room = [0; MOST_CALLS];
+    let mut bytes = [0; MOST_CALLS];
+    let calls = words::narrow(words::load(case.calls, &mut room), &mut bytes)?;
+    let rows = Rows::filled(case.table, out);
+    Some(function(
+        case.bytes,
+        opening.start,
+        opening.version,
+        opening.is_64,
+        opening.width,
+        opening.is_big,
+        &rows.rows,
+        &rows.specs,
+        calls,
+        out,
+    ))
 }
 
 // The function's status; its words are in `out`.
-pub fn call(
-    kind: u64,
-    numbers: &[u64; 10],
-    bytes: &[u8],
-    table: &[u8],
-    calls: &[u8],
-    levels: &[u64],
-    out: &mut [u64],
-) -> u64 {
-    match kind {
-        0..=5 => call_reader(kind, numbers, bytes, out),
-        6 | 7 | 16 => call_unit(kind, numbers, bytes, out),
-        11 => call_value(numbers, bytes, out),
-        _ => call_with_rows(kind, numbers, bytes, table, calls, levels, out),
+pub fn call(case: &Case, out: &mut [u64]) -> Option<u64> {
+    match case.kind {
+        Kind::ReadUleb128 => at_place(case, tehkumir_read_uleb128, out),
+        Kind::ReadUleb128U16 => at_place(case, tehkumir_read_uleb128_u16, out),
+        Kind::ReadSleb128 => at_place(case, tehkumir_read_sleb128, out),
+        Kind::SkipLeb128 => at_place(case, tehkumir_skip_leb128, out),
+        Kind::ReadWord => read_word(case, out),
+        Kind::ReadInitialLength => in_order(case, tehkumir_read_initial_length, out),
+        Kind::UnitHeader => unit_header(case, out),
+        Kind::NextUnit => in_order(case, tehkumir_next_unit, out),
+        Kind::Entry => entry(case, out),
+        Kind::Abbreviations => abbreviations(case, out),
+        Kind::Get => get(case, out),
+        Kind::ReadAttribute => read_attribute(case, out),
+        Kind::Raw => by_calls(case, tehkumir_raw, out),
+        Kind::Cursor => by_calls(case, tehkumir_cursor, out),
+        Kind::Tree => tree(case, out),
+        Kind::RawLent => by_calls(case, tehkumir_raw_lent, out),
+        Kind::TypesNextUnit => in_order(case, tehkumir_types_next_unit, out),
+        Kind::TypeEntry => type_entry(case, out),
     }
 }

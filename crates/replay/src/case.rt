@@ -1,136 +1,59 @@
 // A stored case: a kind of one byte, 10 numbers, then four counts, each with what it counts: the main
 // bytes, an abbreviation section, words for calls or levels, and the expected words. Little-endian.
 
-ghost use Rattle.std.specs.Prelude.{◌≤◌, length};
-ghost use Rattle.replay.specs.Case.{SpanIn, ParsedIn};
+ghost use Rattle.std.specs.Prelude.{◌≤◌, IfSome};
+ghost use Rattle.replay.specs.Case.{IsCounted, PartsIn};
 
-use reader::answer::Word;
-use reader::endianity::RunTimeEndian;
-use reader::words::{read_u8, read_u32, read_u64};
-
-// The kinds are 0 to 17.
-pub const KINDS: u64 = 18;
+use crate::kind::Kind;
+use crate::words;
 
 // The most bytes of a case.
-pub const MOST_BYTES: u64 = 16000;
+pub const MOST_BYTES: usize = 16000;
 
-// Where the counts begin.
-const NUMBERS_END: usize = 81;
-
-#[derive(Clone, Copy)]
-pub enum Span {
-    At(usize, usize),
-    Malformed,
+#[derive(Clone, Copy, Debug, PartialEq, Eq)]
+pub struct Case<'a> {
+    pub kind: Kind,
+    pub numbers: [u64; 10],
+    pub bytes: &'a [u8],
+    pub table: &'a [u8],
+    pub calls: &'a [u8],
+    pub expected: &'a [u8],
 }
 
-// The places of what a case holds, each from its first byte up to its end.
-#[derive(Clone, Copy)]
-pub struct Parts {
-    pub bytes: usize,
-    pub bytes_end: usize,
-    pub table: usize,
-    pub table_end: usize,
-    pub calls: usize,
-    pub calls_end: usize,
-    pub expected: usize,
-    pub expected_end: usize,
-}
-
-#[derive(Clone, Copy)]
-pub enum Parsed {
-    Got(Parts),
-    Malformed,
-}
-
-// What follows a count at `at`, in items of 1 or 8 bytes.
-fn span_at(body: &[u8], at: usize, width: usize) -> Span
+// What a count says follows it, in items of 1 or 8 bytes, and the rest.
+fn counted(bytes: &[u8], width: usize) -> Option<(&[u8], &[u8])>
     requires { width ≤ 8 }
-    ensures { SpanIn (length body.now) result }
+    ensures { IfSome result (λ p. IsCounted bytes.now p.0.now p.1.now) }
 {
-    match read_u32(body, at, RunTimeEndian::Little) {
-        Word::Got(count, from) => {
-            if MOST_BYTES < count {
-                return Span::Malformed;
-            }
-            if body.len() < from {
-                return Span::Malformed;
-            }
-            let size = count as usize * width;
-            if body.len() - from < size {
-                return Span::Malformed;
-            }
-            Span::At(from, from + size)
-        }
-        Word::Refused(_) => Span::Malformed,
-    }
+    let (count, rest) = bytes.split_first_chunk()?;
+    rest.split_at_checked(u32::from_le_bytes(*count) as usize * width)
 }
 
-// The four parts, which fill the case.
-pub fn parse(body: &[u8]) -> Parsed
-    ensures { ParsedIn (length body.now) result }
+pub fn kind(body: &[u8]) -> Option<Kind> {
+    Kind::try_from(*body.first()?).ok()
+}
+
+// The case, which the four parts fill.
+pub fn parse(body: &[u8]) -> Option<Case<'_>>
+    ensures { IfSome result (PartsIn body.now) }
 {
-    let Span::At(bytes, bytes_end) = span_at(body, NUMBERS_END, 1) else {
-        return Parsed::Malformed;
-    };
-    let Span::At(table, table_end) = span_at(body, bytes_end, 1) else {
-        return Parsed::Malformed;
-    };
-    let Span::At(calls, calls_end) = span_at(body, table_end, 8) else {
-        return Parsed::Malformed;
-    };
-    let Span::At(expected, expected_end) = span_at(body, calls_end, 8) else {
-        return Parsed::Malformed;
-    };
-    if expected_end != body.len() {
-        return Parsed::Malformed;
+    let kind = kind(body)?;
+    let (head, rest) = body.split_first_chunk::<81>()?;
+    let (bytes, rest) = counted(rest, 1)?;
+    let (table, rest) = counted(rest, 1)?;
+    let (calls, rest) = counted(rest, 8)?;
+    let (expected, rest) = counted(rest, 8)?;
+    if !rest.is_empty() {
+        return None;
     }
-    Parsed::Got(Parts {
+    let mut numbers = [0; 10];
+    words::load(&head[1..], &mut numbers);
+    Some(Case {
+        kind,
+        numbers,
         bytes,
-        bytes_end,
         table,
-        table_end,
         calls,
-        calls_end,
         expected,
-        expected_end,
     })
-}
-
-// The kind, or `KINDS` where there is none.
-pub fn kind(body: &[u8]) -> u64 {
-    match read_u8(body, 0) {
-        Word::Got(kind, _) => {
-            if kind < KINDS {
-                return kind;
-            }
-            KINDS
-        }
-        Word::Refused(_) => KINDS,
-    }
-}
-
-// The number at `i`, or 0 past the end.
-fn number(body: &[u8], i: usize) -> u64
-    requires { i ≤ 10 }
-{
-    match read_u64(body, 1 + 8 * i, RunTimeEndian::Little) {
-        Word::Got(n, _) => n,
-        Word::Refused(_) => 0,
-    }
-}
-
-// The 10 numbers.
-pub fn numbers(body: &[u8]) -> [u64; 10] {
-    [
-        number(body, 0),
-        number(body, 1),
-        number(body, 2),
-        number(body, 3),
-        number(body, 4),
-        number(body, 5),
-        number(body, 6),
-        number(body, 7),
-        number(body, 8),
-        number(body, 9),
-    ]
 }

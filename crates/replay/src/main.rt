@@ -8,127 +8,49 @@ ghost use Rattle.std.specs.Prelude.{◌≡◌, length, take};
 ghost use Rattle.std.specs.Counts.{IsPrefixLen};
 ghost use Rattle.std.specs.Io.KnownBytes.{Consumes};
 
-use case::{Parsed, Parts};
-use reader::answer::Word;
-use reader::endianity::RunTimeEndian;
-use reader::words::{read_u32, read_u64};
+use case::MOST_BYTES;
 use std::io::Read;
 use tally::Tally;
-use unit::range::part;
 
 mod call; // the function that a case names
 mod case; // the parts of a case
-mod limits; // the numbers that parameters take
+mod kind; // the functions by their numbers
 mod tally; // cases and differences counted
-mod words; // words loaded and compared
+mod words; // words loaded
 
 // The most cases of a run.
 const MOST_CASES: u64 = 1000000;
 
-// The most bytes of the expected words: a status, and as many words as there is room for.
-const MOST_EXPECTED: usize = 8200;
-
-// The room for a case.
-fn case_buffer() -> [u8; 16000]
-    ensures { 16000 ≡ length result }
-{
-    [0; 16000]
-}
-
-// The room for calls or levels: as many as a case has room for.
-fn level_buffer() -> [u64; 2000]
-    ensures { 2000 ≡ length result }
-{
-    [0; 2000]
-}
-
-fn call_buffer() -> [u8; 2000]
-    ensures { 2000 ≡ length result }
-{
-    [0; 2000]
-}
+// The most words of an answer.
+const MOST_WORDS: usize = 1024;
 
 // Whether a status and words are the expected ones: a word for the status, then the others, and
 // zeros behind them.
-fn is_expected(status: u64, out: &[u64], expected: &[u8]) -> bool {
-    if MOST_EXPECTED < expected.len() {
+fn is_expected(status: u64, out: &[u64; MOST_WORDS], expected: &[u8]) -> bool {
+    let Some((stored, stored_words)) = expected.split_first_chunk() else {
+        return false;
+    };
+    if 8 * MOST_WORDS < stored_words.len() {
         return false;
     }
-    match read_u64(expected, 0, RunTimeEndian::Little) {
-        Word::Got(stored, next) => {
-            if stored != status {
-                return false;
-            }
-            let mut refusal: u64 = 0;
-            let stored_words = part(expected, next, expected.len(), &mut refusal);
-            let mut wanted = [0u64; 1024];
-            words::load(stored_words, &mut wanted);
-            words::same(out, &wanted)
-        }
-        Word::Refused(_) => false,
-    }
+    let mut wanted = [0; MOST_WORDS];
+    words::load(stored_words, &mut wanted);
+    u64::from_le_bytes(*stored) == status && *out == wanted
 }
 
-// Whether the function answers as expected; not where a number or a call does not fit.
-fn answers(
-    kind: u64,
-    numbers: &[u64; 10],
-    bytes: &[u8],
-    table: &[u8],
-    stored_calls: &[u8],
-    expected: &[u8],
-) -> bool {
-    if !limits::fits(kind, numbers) {
+// Whether the function answers as expected; not where the case is malformed or a number or a call
+// does not fit.
+fn answers(body: &[u8]) -> bool {
+    let Some(case) = case::parse(body) else {
         return false;
-    }
-    let mut level_space = level_buffer();
-    let level_count = words::load(stored_calls, &mut level_space);
-    let levels = &level_space[..level_count];
-    let mut call_space = call_buffer();
-    let call_count = words::narrow(levels, &mut call_space);
-    let calls = &call_space[..call_count];
-    if kind == 12 || kind == 13 || kind == 15 {
-        if call_count < level_count {
-            return false;
-        }
-    }
-    let mut out = [0u64; 1024];
-    let status = call::call(kind, numbers, bytes, table, calls, levels, &mut out);
-    is_expected(status, &out, expected)
-}
-
-// The same for a case's parts.
-fn parts_answer(kind: u64, body: &[u8], parts: Parts) -> bool {
-    let mut refusal: u64 = 0;
-    let bytes = part(body, parts.bytes, parts.bytes_end, &mut refusal);
-    let table = part(body, parts.table, parts.table_end, &mut refusal);
-    let calls = part(body, parts.calls, parts.calls_end, &mut refusal);
-    let expected = part(body, parts.expected, parts.expected_end, &mut refusal);
-    let numbers = case::numbers(body);
-    answers(kind, &numbers, bytes, table, calls, expected)
-}
-
-// The same for a whole case; not where it is malformed.
-fn case_answers(kind: u64, body: &[u8]) -> bool {
-    if case::KINDS <= kind {
-        return false;
-    }
-    match case::parse(body) {
-        Parsed::Got(parts) => parts_answer(kind, body, parts),
-        Parsed::Malformed => false,
-    }
-}
-
-// A case of so many bytes, one that is cut short or too long, or the end of the input.
-#[derive(Clone, Copy)]
-enum Taken {
-    Whole(usize),
-    Cut,
-    End,
+    };
+    let mut out = [0; MOST_WORDS];
+    call::call(&case, &mut out).is_some_and(|status| is_expected(status, &out, case.expected))
 }
 
 // Reads until `buf` is full, the input ends or a read fails; how many bytes it put at the start: those
 // that the input had next.
+// `shelflist` has it too: no library here reads an input, and std's `read_exact` keeps no count.
 fn read_full<R: Read>(input: &mut R, buf: &mut [u8]) -> usize
     ensures in_bounds { IsPrefixLen result buf.new }
     ensures bytes { Consumes (R.remaining input.old) (R.remaining input.new) (take result buf.new) }
@@ -143,70 +65,45 @@ fn read_full<R: Read>(input: &mut R, buf: &mut [u8]) -> usize
     done
 }
 
-// Reads the next case into the room for one.
-fn take(input: &mut impl Read, space: &mut [u8]) -> Taken
-    requires { 16000 ≡ length space.old }
-{
-    let mut count = [0u8; 4];
-    let got = read_full(input, &mut count);
-    if got == 0 {
-        return Taken::End;
+// A case that is cut short or too long.
+#[derive(Clone, Copy, Debug)]
+struct Malformed;
+
+// Reads the next case into the room for one; none at the end of the input.
+fn next_case<'a>(
+    input: &mut impl Read,
+    space: &'a mut [u8; MOST_BYTES],
+) -> Result<Option<&'a [u8]>, Malformed> {
+    let mut count = [0; 4];
+    match read_full(input, &mut count) {
+        0 => return Ok(None),
+        4 => {}
+        _ => return Err(Malformed),
     }
-    if got < 4 {
-        return Taken::Cut;
+    let count = u32::from_le_bytes(count) as usize;
+    let body = space.get_mut(..count).ok_or(Malformed)?;
+    if read_full(input, body) < count {
+        return Err(Malformed);
     }
-    match read_u32(&count, 0, RunTimeEndian::Little) {
-        Word::Got(n, _) => {
-            if case::MOST_BYTES < n {
-                return Taken::Cut;
-            }
-            let end = n as usize;
-            if read_full(input, &mut space[..end]) < end {
-                return Taken::Cut;
-            }
-            Taken::Whole(end)
-        }
-        Word::Refused(_) => Taken::Cut,
-    }
+    Ok(Some(body))
 }
 
-// One case, read, called and counted.
-fn step(rt: &impl Print, input: &mut impl Read, tally: Tally, space: &mut [u8]) -> Tally
-    requires { 16000 ≡ length space.old }
-{
-    match take(input, space) {
-        Taken::Whole(end) => {
-            let mut refusal: u64 = 0;
-            let body = part(space, 0, end, &mut refusal);
-            let kind = case::kind(body);
-            let is_same = case_answers(kind, body);
-            tally.counted(rt, kind, is_same)
-        }
-        Taken::Cut => {
-            let last = tally.counted(rt, case::KINDS, false);
-            last.ended()
-        }
-        Taken::End => tally.ended(),
-    }
-}
-
-fn replay(rt: &impl Print, input: &mut impl Read, space: &mut [u8]) -> Tally
-    requires { 16000 ≡ length space.old }
-{
+fn replay(rt: &impl Print, input: &mut impl Read) -> Tally {
+    let mut space = [0; MOST_BYTES];
     let mut tally = Tally::new();
-    let mut i: u64 = 0;
-    while i < MOST_CASES {
-        tally = step(rt, input, tally, space);
-        if tally.is_ended {
-            return tally;
+    for _ in 0..MOST_CASES {
+        match next_case(input, &mut space) {
+            Ok(Some(body)) => tally.count(rt, case::kind(body), answers(body)),
+            Ok(None) => break,
+            Err(Malformed) => {
+                tally.count(rt, None, false);
+                break;
+            }
         }
-        i += 1;
     }
     tally
 }
 
 fn main(rt: HostRuntime) {
-    let mut space = case_buffer();
-    let tally = replay(&rt, &mut rt.stdin(), &mut space);
-    tally.say(&rt);
+    replay(&rt, &mut rt.stdin()).say(&rt);
 }

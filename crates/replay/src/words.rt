@@ -1,65 +1,19 @@
-// Words out of bytes, and words compared.
+// Words out of bytes.
 
-ghost use Rattle.std.specs.Prelude.{◌≡◌, true};
-ghost use Rattle.std.specs.Counts.{IsPrefixLen};
-
-use reader::answer::Word;
-use reader::endianity::RunTimeEndian;
-use reader::words::read_u64;
-
-// The little-endian words of 8 bytes in `bytes`, as many as `into` has room for; how many they are.
-pub fn load(bytes: &[u8], into: &mut [u64]) -> usize
-    ensures { IsPrefixLen result into.new }
-{
-    let mut at: usize = 0;
-    let mut n: usize = 0;
-    while n < into.len() {
-        match read_u64(bytes, at, RunTimeEndian::Little) {
-            Word::Got(w, next) => {
-                into[n] = w;
-                at = next;
-                n += 1;
-            }
-            Word::Refused(_) => {
-                return n;
-            }
-        }
+// The little-endian words of 8 bytes in `bytes`, as many as `into` has room for.
+pub fn load<'a>(bytes: &[u8], into: &'a mut [u64]) -> &'a [u64] {
+    let (chunks, _) = bytes.as_chunks();
+    let count = chunks.len().min(into.len());
+    for (word, chunk) in into.iter_mut().zip(chunks) {
+        *word = u64::from_le_bytes(*chunk);
     }
-    n
+    &into[..count]
 }
 
-// The words before the first that is 256 or more, as many as `into` has room for; how many they are.
-pub fn narrow(words: &[u64], into: &mut [u8]) -> usize
-    ensures { IsPrefixLen result into.new }
-{
-    let mut n: usize = 0;
-    while n < into.len() {
-        if words.len() <= n {
-            return n;
-        }
-        let w = words[n];
-        if 255 < w {
-            return n;
-        }
-        into[n] = (w % 256) as u8;
-        n += 1;
+// The words as bytes; none where one is 256 or more, or `into` has too little room.
+pub fn narrow<'a>(words: &[u64], into: &'a mut [u8]) -> Option<&'a [u8]> {
+    for (byte, word) in into.iter_mut().zip(words) {
+        *byte = u8::try_from(*word).ok()?;
     }
-    n
-}
-
-// Whether two slices have the same words.
-pub fn same(a: &[u64], b: &[u64]) -> bool
-    ensures { (result ≡ true → a.now ≡ b.now) × (a.now ≡ b.now → result ≡ true) }
-{
-    if a.len() != b.len() {
-        return false;
-    }
-    let mut i: usize = 0;
-    while i < a.len() {
-        if a[i] != b[i] {
-            return false;
-        }
-        i += 1;
-    }
-    true
+    into.get(..words.len())
 }

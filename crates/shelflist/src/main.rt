@@ -7,31 +7,18 @@ ghost use Rattle.std.specs.Prelude.{◌≡◌, length, take};
 ghost use Rattle.std.specs.Counts.{IsPrefixLen};
 ghost use Rattle.std.specs.Io.KnownBytes.{Consumes};
 
-use listing::input::{Input, sections};
+use listing::input::{Input, InputError, sections};
 use listing::list::list;
 use listing::place::ListingPlace;
+use std::io;
 use std::io::Read;
-use unit::range::part;
 
-// Every line takes a byte of the second section, but for the last.
-const MOST_LINES: usize = 32769;
-
-// The room for a piece of the listing.
-fn piece_buffer() -> [u8; 262144]
-    ensures { 262144 ≡ length result }
-{
-    [0; 262144]
-}
-
-// The room for both sections and their counts.
-fn input_buffer() -> [u8; 65544]
-    ensures { 65544 ≡ length result }
-{
-    [0; 65544]
-}
+// A piece has a line at least, and every line takes a byte of the second section, but for the last.
+const MOST_PIECES: usize = 32769;
 
 // Reads until `buf` is full, the input ends or a read fails; how many bytes it put at the start: those
 // that the input had next.
+// `replay` has it too: no library here reads an input, and std's `read_exact` keeps no count.
 fn read_full<R: Read>(input: &mut R, buf: &mut [u8]) -> usize
     ensures in_bounds { IsPrefixLen result buf.new }
     ensures bytes { Consumes (R.remaining input.old) (R.remaining input.new) (take result buf.new) }
@@ -46,64 +33,32 @@ fn read_full<R: Read>(input: &mut R, buf: &mut [u8]) -> usize
     done
 }
 
-// Writes the listing piece by piece.
-fn list_pieces(
-    rt: &impl Print,
-    abbrevs: &[u8],
-    info: &[u8],
-    rows: &mut [u64],
-    specs: &mut [u64],
-    out: &mut [u8],
-)
-    requires { 262144 ≡ length out.old }
-{
-    let mut place = ListingPlace {
-        unit: 0,
-        offset: 0,
-        depth: 0,
-    };
-    let mut lines: usize = 0;
-    while lines < MOST_LINES {
-        let piece = list(abbrevs, info, rows, specs, place, out);
-        let end = piece.bytes;
-        let is_written = rt.write_all(&out[..end]).is_ok();
-        if !is_written {
-            return;
-        }
-        if piece.more {
-            lines += piece.lines;
-            place = piece.place;
-        } else {
-            return;
-        }
+// Lists two sections piece by piece, with 256 abbreviation and 1,024 specification rows.
+fn list_sections(rt: &impl Print, abbrevs: &[u8], info: &[u8]) -> io::Result<()> {
+    let mut rows = [0; 1280];
+    let mut specs = [0; 3072];
+    let mut out = [0; 262144];
+    let mut place = ListingPlace::default();
+    for _ in 0..MOST_PIECES {
+        let piece = list(abbrevs, info, &mut rows, &mut specs, place, &mut out);
+        rt.write_all(&out[..piece.bytes])?;
+        let Some(next) = piece.next else {
+            break;
+        };
+        place = next;
     }
-}
-
-// Lists two sections, with 256 abbreviation and 1,024 specification rows.
-fn list_sections(rt: &impl Print, abbrevs: &[u8], info: &[u8]) {
-    let mut rows = [0u64; 1280];
-    let mut specs = [0u64; 3072];
-    let mut out = piece_buffer();
-    list_pieces(rt, abbrevs, info, &mut rows, &mut specs, &mut out);
-}
-
-// Writes the only line; the program ends then, whether or not the write fails.
-fn say(rt: &impl Print, text: &[u8]) {
-    let _ = rt.write_all(text);
+    Ok(())
 }
 
 fn main(rt: HostRuntime) {
-    let mut space = input_buffer();
+    // The room for both sections and their counts.
+    let mut space = [0; 65544];
     let got = read_full(&mut rt.stdin(), &mut space);
-    let mut refusal: u64 = 0;
-    let input = part(&space, 0, got, &mut refusal);
-    match sections(input) {
-        Input::Both(start, end, from, to) => {
-            let abbrevs = part(input, start, end, &mut refusal);
-            let info = part(input, from, to, &mut refusal);
-            list_sections(&rt, abbrevs, info);
-        }
-        Input::TooLong => say(&rt, b"too long\n"),
-        Input::Short => say(&rt, b"short\n"),
-    }
+    let input = &space[..got];
+    // The program ends then, whether or not a write failed.
+    let _ = match sections(input) {
+        Ok(Input { abbrevs, info }) => list_sections(&rt, &input[abbrevs], &input[info]),
+        Err(InputError::TooLong) => println!(rt; "too long"),
+        Err(InputError::Short) => println!(rt; "short"),
+    };
 }
