@@ -1,11 +1,11 @@
 -- Laws of one value in a lent slice.
-use mathlib.Core.Path.{◌≡◌, refl, sym, ◌∙◌}
-use mathlib.Core.List.{List, [], ◌∷◌, ◌++◌, append_assoc, append-nil}
+use mathlib.Core.Path.{◌≡◌}
+use mathlib.Core.List.{List, [], ◌∷◌, ◌++◌, append_assoc}
 use Prim.Native.Nat.{ℕ, ◌+◌, ◌-◌, ◌≤◌, ◌<◌}
 use native.Mathlib.Omega.{arith}
 use native.Mathlib.Numerals.{add-one}
 use lib.ListN.{length, take, set, replicate, length-set, replicate-append-replicate}
-use lib.Seq.{take-suc-set, take_all}
+use lib.Seq.{take-suc-set}
 
 -- from `from` up to i, l has the value; a `from` past the end stays
 pub record Filled {A : Type 0} (x : A) (l₀ : List A) (from : ℕ) (l : List A) (i : ℕ) : Type 0 where
@@ -13,11 +13,6 @@ pub record Filled {A : Type 0} (x : A) (l₀ : List A) (from : ℕ) (l : List A)
   pub until : i - from ≤ length l - from
   pub same : length l ≡ length l₀
   pub is : take i l ≡ take from l₀ ++ replicate (i - from) x
-
-pub fill_begun : {A : Type 0} (x : A) (l : List A) (from : ℕ) → Filled x l from l from
-fill_begun x l from =
-    let e : from - from ≡ 0 = omega arith in
-    record { since = omega arith; until = omega arith; same = refl; is = rw (e, append-nil) }
 
 module _ {A : Type 0} {x : A} {l₀ : List A} {from : ℕ} {l : List A} {i : ℕ} (t : Filled x l₀ from l i) where
   pub fill_further : i < length l → Filled x l₀ from (set l i x) (i + 1)
@@ -30,8 +25,3 @@ module _ {A : Type 0} {x : A} {l₀ : List A} {from : ℕ} {l : List A} {i : ℕ
         same = simp length-set t.same;
         is = rw (e, ← replicate-append-replicate {A = A} (i - from) 1 x, ← append_assoc (take from l₀)) f;
       }
-
-  pub fill_ended : length l ≤ i → l ≡ take from l₀ ++ replicate (length l₀ - from) x
-  fill_ended h =
-      let e : i - from ≡ length l₀ - from = omega (arith, t.until, t.same) in
-      rw e at (sym (take_all i l h) ∙ t.is)

@@ -13,10 +13,12 @@ use lib.Seq.{drop-cons, get_or-take, get_or-drop, length-take-le}
 use Rattle.reader.specs.Twos.{twos}
 use Rattle.reader.specs.Answer.{Answer, got, refused, and_then, gives, placed}
 use Rattle.reader.specs.Leb128.{through, most_bytes, extent, leb128, uleb_at, sleb_at, past_at}
-use Rattle.reader.specs.Parts.{Ended, whole_of, integer_of}
+use Rattle.reader.specs.Parts.{Ended}
+use Rattle.reader.specs.Sound.{whole_of, integer_of}
 use Rattle.reader.specs.Words.{number}
+use lib.IntN.{pos, negsuc}
 use lib.Signed.{mag}
-use Rattle.reader.proofs.Signs.{last_fits}
+use Rattle.reader.proofs.Signs.{last_fits, last_low, last_high, twos_low, twos_high}
 use Rattle.reader.proofs.Numbers.{number_snoc, ltb_bits, above_fits}
 
 -- ---- up to the first element below a bound
@@ -57,11 +59,6 @@ module _ {m : ℕ} {xs : List ℕ} {j : ℕ} (t : Passed m xs j) where
 pub record Skipping (s : List ℕ) (at m p : ℕ) : Type 0 where
   pub from : at ≤ p
   pub on : Passed m (drop at s) (p - at)
-
-pub skip_begun : (s : List ℕ) (at m : ℕ) → Skipping s at m at
-skip_begun s at m =
-    let e : at - at ≡ 0 = omega arith in
-    record { from = omega arith; on = rw e (passed_none m (drop at s)) }
 
 module _ {s : List ℕ} {at m p : ℕ} (t : Skipping s at m p) where
   pub skip_ended : length s ≤ p → past_at s at m ≡ refused 2
@@ -205,6 +202,16 @@ module _ (s : List ℕ) (at w v sh b p : ℕ) (t : Ended s at w v sh b p) where
         placed_cond at (p - at) (ltb (mag (twos 7 b)) (2 ^ (w - sh - 1))) (twos (sh + 7) (v + b * 2 ^ sh)) 4,
         t.place,
       )
+
+-- the signed number by the sign of its last byte
+module _ (w v sh b p : ℕ) (under : v < 2 ^ sh) where
+  pub integer_low : b < 64 → integer_of w v sh b p ≡ cond (ltb b (2 ^ (w - sh - 1))) (gives (pos (v + b * 2 ^ sh)) p) (refused 4)
+  unfolding integer_of
+  integer_low h = rw (twos_low 7 b h, last_low v sh b under h)
+
+  pub integer_high : 64 ≤ b → b < 128 → integer_of w v sh b p ≡ cond (ltb (127 - b) (2 ^ (w - sh - 1))) (gives (negsuc (2 ^ sh - 1 - v + (127 - b) * 2 ^ sh)) p) (refused 4)
+  unfolding integer_of
+  integer_high h k = rw (twos_high 7 b h k, last_high v sh b under h k)
 
 -- a number that does not end
 pub unsigned_open : (s : List ℕ) (at w n : ℕ) → extent (most_bytes w) 3 (drop at s) ≡ refused n → uleb_at s at w ≡ refused n

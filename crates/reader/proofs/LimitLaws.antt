@@ -12,12 +12,13 @@ use lib.ListN.{take, drop, get_or}
 use lib.Pow.{pow_mono}
 use lib.Seq.{length-take-le}
 use lib.Signed.{mag}
+use Rattle.std.proofs.lemmas.Bool.{cases_lt}
 use Rattle.reader.specs.Twos.{twos}
 use Rattle.reader.specs.Answer.{Answer, got, refused, and_then, gives, placed, Holds}
 use Rattle.reader.specs.Leb128.{most_bytes, extent, leb128, unsigned, fits_unsigned, signed, fits_signed, uleb_at, sleb_at}
 use Rattle.reader.specs.Limits.{limited}
 use Rattle.reader.specs.Words.{number}
-use Rattle.reader.proofs.Numbers.{number_below, number_snoc, lt_or_le, ltb_bits}
+use Rattle.reader.proofs.Numbers.{number_below, number_snoc, ltb_bits}
 use Rattle.reader.proofs.Signs.{twos_low, twos_high, last_fits}
 use Rattle.reader.proofs.Accepted.{Extent, extent_in}
 
@@ -54,7 +55,7 @@ module _ (w : ℕ) {xs : List ℕ} {k : ℕ} (x : Extent (most_bytes w) xs k) wh
   -- a test that every byte of fewer than the most passes, and of the most says what `top` says
   tested : (test : ℕ → Bool) → (k < most_bytes w → test (w - shift) ≡ true) → test (w - shift) ≡ (ltb k (most_bytes w) || test (top_bits w))
   unfolding shift
-  tested test h = ⊎_elim fewer all (lt_or_le k (most_bytes w))
+  tested test h = ⊎_elim fewer all (cases_lt k (most_bytes w))
     where
       fewer : k < most_bytes w → test (w - shift) ≡ (ltb k (most_bytes w) || test (top_bits w))
       fewer l = rw (h l, lt-ltb k (most_bytes w) l)
@@ -81,7 +82,7 @@ module _ (w : ℕ) {xs : List ℕ} {k : ℕ} (x : Extent (most_bytes w) xs k) wh
   unfolding last shift lower
   signed_test =
       rw (length-take-le k xs x.within, bits, worth_last, last_fits lower shift last lower_below w some below)
-      (tested (λ n. ltb (mag (twos 7 last)) (2 ^ (n - 1))) (λ l. lt-ltb (mag (twos 7 last)) (2 ^ (w - shift - 1)) (⊎_elim (low l) (high l) (lt_or_le last 64))))
+      (tested (λ n. ltb (mag (twos 7 last)) (2 ^ (n - 1))) (λ l. lt-ltb (mag (twos 7 last)) (2 ^ (w - shift - 1)) (⊎_elim (low l) (high l) (cases_lt last 64))))
     where
       bits : 7 * k ≡ shift + 7
       bits = omega (arith, x.some)
@@ -131,19 +132,19 @@ limited_same m n worth top other xs h = go (extent m n xs) (extent_in m n xs)
 
 -- a byte of seven bits is 0 or -1
 none_or_all : (b : ℕ) → b < 128 → ltb (mag (twos 7 b)) 1 ≡ (eqb b 0 || eqb b 0x7f)
-none_or_all b k = ⊎_elim low high (lt_or_le b 64)
+none_or_all b k = ⊎_elim low high (cases_lt b 64)
   where
     low : b < 64 → ltb (mag (twos 7 b)) 1 ≡ (eqb b 0 || eqb b 0x7f)
     low h = rw (twos_low 7 b h, ne_eqb b 0x7f (λ e. omega arith)) (⊎_elim
         (λ l. let e : b ≡ 0 = omega arith in rw e)
         (λ l. rw (le-ltb b 1 l, ne_eqb b 0 (λ e. omega arith)))
-        (lt_or_le b 1))
+        (cases_lt b 1))
 
     high : 64 ≤ b → ltb (mag (twos 7 b)) 1 ≡ (eqb b 0 || eqb b 0x7f)
     high h = rw (twos_high 7 b h k, ne_eqb b 0 (λ e. omega arith)) (⊎_elim
         (λ l. rw (lt-ltb (127 - b) 1 l, eq-eqb b 0x7f (omega arith)))
         (λ l. rw (le-ltb (127 - b) 1 l, ne_eqb b 0x7f (λ e. omega arith)))
-        (lt_or_le (127 - b) 1))
+        (cases_lt (127 - b) 1))
 
 -- 01: unsigned, ten bytes at most, the tenth 0 or 1
 pub uleb_64 : (s : List ℕ) (at : ℕ) → uleb_at s at 64 ≡ placed at (limited 10 3 unsigned (λ b. ltb b 2) (drop at s))

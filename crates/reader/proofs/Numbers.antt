@@ -1,17 +1,18 @@
 -- Laws of numbers by their digits.
-use mathlib.Core.Bool.{Bool, true, false}
-use mathlib.Core.Logic.{◌⊎◌, inl, inr, ⊎_elim}
-use mathlib.Core.Path.{◌≡◌, refl, sym, ap, ◌∙◌}
+use mathlib.Core.Bool.{Bool, true}
+use mathlib.Core.Logic.{⊎_elim}
+use mathlib.Core.Path.{◌≡◌, sym, ap, ◌∙◌}
 use mathlib.Core.List.{List, [], ◌∷◌, ◌++◌}
 use Prim.Native.Nat.{ℕ, suc, ◌+◌, ◌-◌, ◌*◌, ◌%◌, ◌^◌, ◌≤◌, ◌<◌}
 use native.Mathlib.Omega.{arith}
 use native.Mathlib.Nat.{add-zero, mul-zero, mul-suc, mul-add, mul_assoc, mul_comm, mul-le-mul_right, mod-lt, lt_of_lt_of_le}
-use borrow.Author.Tests.{ltb-true, ltb-false, lt-ltb, le-ltb}
+use borrow.Author.Tests.{ltb-true, lt-ltb, le-ltb}
 use lib.Arith.{digits_lt}
 use lib.Dec.{ltb}
 use lib.ListN.{length, take, get_or}
 use lib.Seq.{take-suc, length-take-le}
 use lib.Pow.{pow-add, pow_mono, pow_pos}
+use Rattle.std.proofs.lemmas.Bool.{cases_lt}
 use Rattle.reader.specs.Words.{number}
 
 -- n digits of k bits are below 2 ^ (k * n)
@@ -36,14 +37,6 @@ number_append k (x ∷ xs) ys =
       mul_assoc (2 ^ k) (2 ^ (k * length xs)) (number k ys),
     ) (omega arith)
 
--- one of two orders
-pub lt_or_le : (a b : ℕ) → (a < b) ⊎ (b ≤ a)
-lt_or_le a b = go (ltb a b) (ltb-true a b) (ltb-false a b)
-  where
-    go : (t : Bool) → (t ≡ true → a < b) → (t ≡ false → b ≤ a) → (a < b) ⊎ (b ≤ a)
-    go true h k = inl (h refl)
-    go false h k = inr (k refl)
-
 -- one digit more
 pub number_snoc : (k j : ℕ) (xs : List ℕ) → j < length xs → number k (take (suc j) xs) ≡ number k (take j xs) + get_or xs j 0 % 2 ^ k * 2 ^ (k * j)
 unfolding number
@@ -52,7 +45,7 @@ number_snoc k j xs h =
 
 -- x below P and c times P are below Q times P where c is below Q
 pub ltb_high : (x c P Q : ℕ) → x < P → ltb (x + c * P) (Q * P) ≡ ltb c Q
-ltb_high x c P Q h = ⊎_elim yes no (lt_or_le c Q)
+ltb_high x c P Q h = ⊎_elim yes no (cases_lt c Q)
   where
     yes : c < Q → ltb (x + c * P) (Q * P) ≡ ltb c Q
     yes k = lt-ltb (x + c * P) (Q * P) (omega (arith, digits_lt {q = c} {m = Q} {r = x} {c = P} k h)) ∙ sym (lt-ltb c Q k)
@@ -70,3 +63,12 @@ ltb_bits w sh x c h k =
 pub above_fits : (n j v b sh : ℕ) → v < 2 ^ sh → b < 2 ^ j → j + sh ≤ n → v + b * 2 ^ sh < 2 ^ n
 above_fits n j v b sh h k l =
     lt_of_lt_of_le (rw (pow-add 2 j sh) (omega (arith, digits_lt {q = b} {m = 2 ^ j} {r = v} {c = 2 ^ sh} k h))) (pow_mono {i = j + sh} {j = n} l)
+
+-- b has room in the bits of w that are left, w being a word or less
+module _ {w v sh : ℕ} (b : ℕ) {t : Bool} (most : w ≤ 64) (some : sh < w) (under : v < 2 ^ sh) (yes : t ≡ true) where
+  pub above_word : t ≡ ltb b (2 ^ (w - sh)) → v + b * 2 ^ sh < 2 ^ 64
+  above_word h = above_fits 64 (w - sh) v b sh under (ltb-true _ _ (sym h ∙ yes)) (omega arith)
+
+  -- and in those below the sign
+  pub above_sign : t ≡ ltb b (2 ^ (w - sh - 1)) → v + b * 2 ^ sh < 2 ^ 63
+  above_sign h = above_fits 63 (w - sh - 1) v b sh under (ltb-true _ _ (sym h ∙ yes)) (omega arith)

@@ -1,5 +1,5 @@
 -- Laws of padded LEB128 numbers: whether fewer bytes would do, by existence, by the limits and by the last bytes.
-use mathlib.Core.Bool.{Bool, true, false, cond, ◌&&◌}
+use mathlib.Core.Bool.{Bool, true, false, cond}
 use mathlib.Core.Logic.{◌↔◌, ⊎_elim}
 use mathlib.Core.Path.{◌≡◌, refl, sym, ap, ◌∙◌}
 use mathlib.Core.List.{List, [], ◌∷◌}
@@ -11,8 +11,11 @@ use lib.Dec.{eqb, ltb}
 use lib.IntN.{ℤ, pos, negsuc}
 use lib.ListN.{length, take, drop, get_or, length-drop}
 use lib.Pow.{pow_mono, pow_pos, shr_lt}
-use lib.Seq.{get_or-drop, length-take-le, take_all}
+use lib.Seq.{get_or-take, get_or-drop, length-take-le, take_all}
 use lib.Signed.{mag}
+use Rattle.std.proofs.lemmas.Bool.{and_parts, cases_lt}
+use Rattle.std.proofs.lemmas.Nat.Bits.{and_pow}
+use Rattle.std.specs.Int.Bits.{bit_and}
 use Rattle.reader.specs.Answer.{Answer, got, refused, and_then, Read, gives, placed, Holds}
 use Rattle.reader.specs.Leb128.{through, most_bytes, extent, leb128, unsigned, fits_unsigned, signed, fits_signed, uleb_at, sleb_at}
 use Rattle.reader.specs.Padded.{Fewer, fewer, counted, uleb_counted_at, sleb_counted_at, zero_last, sign_last}
@@ -22,7 +25,7 @@ use Rattle.reader.specs.Twos.{twos, word}
 use Rattle.reader.specs.Words.{number}
 use Rattle.reader.proofs.Accepted.{Extent, read_holds}
 use Rattle.reader.proofs.Answers.{holds_then, cond_by}
-use Rattle.reader.proofs.Numbers.{number_below, number_snoc, lt_or_le, ltb_bits}
+use Rattle.reader.proofs.Numbers.{number_below, number_snoc, ltb_bits}
 use Rattle.reader.proofs.Signs.{twos_word, twos_low, twos_high, last_low, last_high}
 
 -- ---- the bytes of a number, as many as are asked for
@@ -105,7 +108,7 @@ unsigned_spelling =
     }
 
 mag_twos : (n v : ℕ) → 0 < n → v < 2 ^ n → mag (twos n v) < 2 ^ (n - 1)
-mag_twos n v l h = ⊎_elim low high (lt_or_le v (2 ^ (n - 1)))
+mag_twos n v l h = ⊎_elim low high (cases_lt v (2 ^ (n - 1)))
   where
     low : v < 2 ^ (n - 1) → mag (twos n v) < 2 ^ (n - 1)
     low k = rw (twos_low n v k) k
@@ -134,11 +137,6 @@ signed_spelling =
       room = λ xs m h l. below_signed xs m h l;
     }
 
-both : (a b : Bool) → a && b ≡ true → (a ≡ true) × (b ≡ true)
-both true true h = (refl, refl)
-both true false h = let z : ◌≡◌ {A = ℕ} 0 1 = cc in absurd (omega arith)
-both false b h = let z : ◌≡◌ {A = ℕ} 0 1 = cc in absurd (omega arith)
-
 module _ {A : Type 0} (worth : List ℕ → A) (fits : ℕ → A → Bool) (p : Spelling worth fits) (w n : ℕ) where
   abbrev reader : List ℕ → Answer (Read A)
   reader bs = placed 0 (leb128 w n worth (fits w) (drop 0 bs))
@@ -157,7 +155,7 @@ module _ {A : Type 0} (worth : List ℕ → A) (fits : ℕ → A → Bool) (p : 
   module _ (k : ℕ) (v : A) (some : 1 ≤ k) (most : k ≤ most_bytes w) (held : fits w v ≡ true) where
     exists : fewer fits k v ≡ true → Fewer reader k v
     exists h =
-        let a = both (ltb 1 k) (fits (7 * (k - 1)) v) h in
+        let a = and_parts (ltb 1 k) (fits (7 * (k - 1)) v) h in
         let l = ltb-true 1 k a.0 in
         let u = p.bits (k - 1) v in
         record {
@@ -273,10 +271,10 @@ module _ (x sh b : ℕ) (under : x < 2 ^ sh) (some : 0 < sh) where
   cond_false false = refl
 
   signed_last : b < 128 → ltb (mag (twos (sh + 7) (x + b * 2 ^ sh))) (2 ^ (sh - 1)) ≡ cond (ltb x (2 ^ (sh - 1))) (eqb b 0) (eqb b 0x7f)
-  signed_last k = ⊎_elim low high (lt_or_le b 64)
+  signed_last k = ⊎_elim low high (cases_lt b 64)
     where
       low : b < 64 → ltb (mag (twos (sh + 7) (x + b * 2 ^ sh))) (2 ^ (sh - 1)) ≡ cond (ltb x (2 ^ (sh - 1))) (eqb b 0) (eqb b 0x7f)
-      low l = rw (last_low x sh b under l) (⊎_elim none more (lt_or_le b 1))
+      low l = rw (last_low x sh b under l) (⊎_elim none more (cases_lt b 1))
         where
           none : b < 1 → ltb (x + b * 2 ^ sh) (2 ^ (sh - 1)) ≡ cond (ltb x (2 ^ (sh - 1))) (eqb b 0) (eqb b 0x7f)
           none q = let z : b ≡ 0 = omega arith in let y : x + 0 * 2 ^ sh ≡ x = omega arith in rw (z, y) (go (ltb x (2 ^ (sh - 1))))
@@ -289,7 +287,7 @@ module _ (x sh b : ℕ) (under : x < 2 ^ sh) (some : 0 < sh) where
           more q = rw (higher b x q, ne_eqb b 0 (λ z. omega arith), ne_eqb b 0x7f (λ z. omega arith)) (cond_false (ltb x (2 ^ (sh - 1))))
 
       high : 64 ≤ b → ltb (mag (twos (sh + 7) (x + b * 2 ^ sh))) (2 ^ (sh - 1)) ≡ cond (ltb x (2 ^ (sh - 1))) (eqb b 0) (eqb b 0x7f)
-      high l = rw (last_high x sh b under l k) (⊎_elim less all (lt_or_le b 127))
+      high l = rw (last_high x sh b under l k) (⊎_elim less all (cases_lt b 127))
         where
           less : b < 127 → ltb (2 ^ sh - 1 - x + (127 - b) * 2 ^ sh) (2 ^ (sh - 1)) ≡ cond (ltb x (2 ^ (sh - 1))) (eqb b 0) (eqb b 0x7f)
           less q = rw (higher (127 - b) (2 ^ sh - 1 - x) (omega arith), ne_eqb b 0 (λ z. omega arith), ne_eqb b 0x7f (λ z. omega arith)) (cond_false (ltb x (2 ^ (sh - 1))))
@@ -298,7 +296,7 @@ module _ (x sh b : ℕ) (under : x < 2 ^ sh) (some : 0 < sh) where
           all q =
               let z : b ≡ 127 = omega arith in
               let y : 2 ^ sh - 1 - x + 0 * 2 ^ sh ≡ 2 ^ sh - 1 - x = omega arith in
-              rw (z, y) (⊎_elim (λ m. rw (lt-ltb x (2 ^ (sh - 1)) m) (le-ltb (2 ^ sh - 1 - x) (2 ^ (sh - 1)) (omega (arith, double)))) (λ m. rw (le-ltb x (2 ^ (sh - 1)) m) (lt-ltb (2 ^ sh - 1 - x) (2 ^ (sh - 1)) (omega (arith, double)))) (lt_or_le x (2 ^ (sh - 1))))
+              rw (z, y) (⊎_elim (λ m. rw (lt-ltb x (2 ^ (sh - 1)) m) (le-ltb (2 ^ sh - 1 - x) (2 ^ (sh - 1)) (omega (arith, double)))) (λ m. rw (le-ltb x (2 ^ (sh - 1)) m) (lt-ltb (2 ^ sh - 1 - x) (2 ^ (sh - 1)) (omega (arith, double)))) (cases_lt x (2 ^ (sh - 1))))
 
 sign_last_lem : (xs : List ℕ) (i : ℕ) → suc i < length xs → get_or xs (suc i) 0 < 128
     → fits_signed (7 * suc i) (signed (take (suc (suc i)) xs)) ≡ cond (ltb (get_or xs i 0 % 128) 64) (eqb (get_or xs (suc i) 0) 0) (eqb (get_or xs (suc i) 0) 0x7f)
@@ -356,3 +354,44 @@ unsigned_last_bytes s at w = holds_then (RuledUnsigned s at) (λ r. r.value.padd
 pub signed_last_bytes : (s : List ℕ) (at w : ℕ) → Holds (λ r. r.value.padded ≡ sign_last s at r.next) (sleb_counted_at s at w)
 unfolding sleb_counted_at
 signed_last_bytes s at w = holds_then (RuledSigned s at) (λ r. r.value.padded ≡ sign_last s at r.next) (sleb_at s at w) _ (signed_rule s at w) (λ x y. y.rule)
+
+-- bit 6 of a byte, as the code asks for it
+pub sign_bit : (b : ℕ) → (bit_and b 64 ≡ 0) ↔ (b % 128 < 64)
+sign_bit b =
+    let e : bit_and b 64 ≡ b / 64 % 2 * 64 = and_pow b 6 in
+    (λ h. omega (arith, e, h), λ h. omega (arith, e, h))
+
+-- the rules, asked of the number's own bytes
+module _ (s : List ℕ) (at p : ℕ) (some : at < p) (most : p ≤ length s) where
+  abbrev own : List ℕ
+  own = take (p - at) (drop at s)
+
+  own_length : length own ≡ p - at
+  own_length = length-take-le (p - at) (drop at s) (rw (length-drop at s) (omega arith))
+
+  own_byte : (k : ℕ) → k < p - at → get_or own k 0 ≡ get_or s (at + k) 0
+  own_byte k h = rw (get_or-take (p - at) (drop at s) k 0 h, get_or-drop at s k 0)
+
+  pub zero_last_own : zero_last own 0 (length own) ≡ zero_last s at p
+  zero_last_own =
+      let e : at + (p - at - 1) ≡ p - 1 = omega arith in
+      let z : p - at - 0 ≡ p - at = omega arith in
+      let a = own_byte (p - at - 1) (omega arith) in
+      rw (own_length, z, a, e)
+
+  pub sign_last_own : sign_last own 0 (length own) ≡ sign_last s at p
+  sign_last_own = ⊎_elim one more (cases_lt (p - at) 2)
+    where
+      one : p - at < 2 → sign_last own 0 (length own) ≡ sign_last s at p
+      one h =
+          let z : p - at - 0 ≡ p - at = omega arith in
+          rw (own_length, z, le-ltb 1 (p - at) (omega arith))
+
+      more : 2 ≤ p - at → sign_last own 0 (length own) ≡ sign_last s at p
+      more h =
+          let e : at + (p - at - 1) ≡ p - 1 = omega arith in
+          let f : at + (p - at - 2) ≡ p - 2 = omega arith in
+          let z : p - at - 0 ≡ p - at = omega arith in
+          let a = own_byte (p - at - 1) (omega arith) in
+          let b = own_byte (p - at - 2) (omega arith) in
+          rw (own_length, z, a, b, e, f)

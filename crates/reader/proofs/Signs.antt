@@ -1,28 +1,20 @@
 -- Laws of two's complement.
-use mathlib.Core.Bool.{true, false}
 use mathlib.Core.Logic.{⊎_elim}
 use mathlib.Core.Path.{◌≡◌, refl, sym, ap, ◌∙◌}
 use Prim.Native.Nat.{ℕ, zero, suc, ◌+◌, ◌-◌, ◌*◌, ◌^◌, ◌≤◌, ◌<◌}
 use native.Mathlib.Omega.{arith}
-use native.Mathlib.Nat.{zero-add, add-mul}
-use borrow.Author.Tests.{lt-ltb, le-ltb, ltb-true, ltb-false, leb-false}
-use lib.Dec.{T, ltb}
-use lib.IntN.{ℤ, pos, negsuc, ◌-ℤ◌, nat_abs}
+use native.Mathlib.Nat.{add-mul}
+use borrow.Author.Tests.{lt-ltb, le-ltb, ltb-true, ltb-false}
+use lib.Dec.{ltb}
+use lib.IntN.{ℤ, pos, negsuc, ◌-ℤ◌}
 use lib.Pow.{pow-add, pow_mono}
-use lib.Signed.{mag, le_z, non_neg}
+use lib.Signed.{mag}
 use mir.Syntax.{w64}
 use mir.Val.{to_z, of_z}
 use mir.Facts.{to_z_pos}
+use Rattle.std.proofs.lemmas.Bool.{cases_lt}
 use Rattle.reader.specs.Twos.{twos, word}
-use Rattle.reader.proofs.Numbers.{lt_or_le, ltb_bits}
-
-neg_one : (x : ℕ) → negsuc 0 -ℤ pos x ≡ negsuc x
-neg_one zero = refl
-neg_one (suc n) = ap (λ (k : ℕ). negsuc (suc k)) (zero-add n)
-
--- the code's -1 - x
-pub minus : (x : ℕ) → x < 2 ^ 63 → negsuc 0 -ℤ to_z w64 x ≡ negsuc x
-minus x h = rw (to_z_pos w64 h) (neg_one x)
+use Rattle.reader.proofs.Numbers.{ltb_bits}
 
 sub_more : (v P : ℕ) → v < P → pos v -ℤ pos P ≡ negsuc (P - 1 - v)
 sub_more v zero h = absurd (omega arith)
@@ -64,7 +56,7 @@ module _ (v sh b : ℕ) (under : v < 2 ^ sh) where
 
   -- it fits w bits where the last seven bits, signed, fit those left
   pub last_fits : (w : ℕ) → sh < w → b < 128 → ltb (mag (twos (sh + 7) (v + b * 2 ^ sh))) (2 ^ (w - 1)) ≡ ltb (mag (twos 7 b)) (2 ^ (w - sh - 1))
-  last_fits w l k = ⊎_elim low high (lt_or_le b 64)
+  last_fits w l k = ⊎_elim low high (cases_lt b 64)
     where
       e : w - 1 - sh ≡ w - sh - 1
       e = omega arith
@@ -75,23 +67,10 @@ module _ (v sh b : ℕ) (under : v < 2 ^ sh) where
       high : 64 ≤ b → ltb (mag (twos (sh + 7) (v + b * 2 ^ sh))) (2 ^ (w - 1)) ≡ ltb (mag (twos 7 b)) (2 ^ (w - sh - 1))
       high h = rw (last_high h k, twos_high 7 b h k, ← e) (ltb_bits (w - 1) sh (2 ^ sh - 1 - v) (127 - b) (omega arith) (omega arith))
 
--- the code's word of a number
-pub natural : (z : ℤ) → le_z (pos 0) z ≡ true → T (non_neg z) × (nat_abs z ≡ word 64 z)
-unfolding word
-natural (pos n) t = (tt, refl)
-natural (negsuc n) t = let z : ◌≡◌ {A = ℕ} 0 1 = cc in absurd (omega arith)
-
-pub below_zero : (z : ℤ) → le_z (pos 0) z ≡ false → (negsuc 0 -ℤ z ≡ pos (mag z)) × (word 64 z ≡ 2 ^ 64 - 1 - mag z)
-unfolding word
-below_zero (pos n) t = absurd (omega (arith, leb-false 0 n t))
-below_zero (negsuc n) t =
-    let e : suc n - 1 ≡ n = omega arith in
-    (rw (le-ltb (suc n) 1 (omega arith), e), refl)
-
 -- there and back
 pub word_twos : (n v : ℕ) → v < 2 ^ n → word n (twos n v) ≡ v
 unfolding word
-word_twos n v h = ⊎_elim low high (lt_or_le v (2 ^ (n - 1)))
+word_twos n v h = ⊎_elim low high (cases_lt v (2 ^ (n - 1)))
   where
     low : v < 2 ^ (n - 1) → word n (twos n v) ≡ v
     low l = rw (twos_low n v l)
@@ -131,7 +110,7 @@ word_cast (pos k) = refl
 word_cast (negsuc k) = omega arith
 
 pub twos_cast : (n : ℕ) → n < 2 ^ 64 → to_z w64 n ≡ twos 64 n
-twos_cast n k = ⊎_elim (λ h. to_z_pos w64 h ∙ sym (twos_low 64 n h)) high (lt_or_le n (2 ^ 63))
+twos_cast n k = ⊎_elim (λ h. to_z_pos w64 h ∙ sym (twos_low 64 n h)) high (cases_lt n (2 ^ 63))
   where
     high : 2 ^ 63 ≤ n → to_z w64 n ≡ twos 64 n
     high h = rw (le-ltb n (2 ^ 63) h, twos_high 64 n h k) (ap negsuc (omega arith))

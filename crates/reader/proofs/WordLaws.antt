@@ -11,13 +11,14 @@ use lib.Pow.{high, low, shl_exact}
 use mathlib.Core.Logic.{⊎_elim}
 use lib.ListN.{length, take, drop, get_or, length-drop, length-reverse}
 use lib.Seq.{take-add, drop-drop, drop-cons, length-take-le}
+use Rattle.std.proofs.lemmas.Bool.{cases_lt}
 use Rattle.reader.specs.Answer.{refused, and_then, gives, Read, Holds}
 use Rattle.reader.specs.Parts.{Joins, joined}
 use Rattle.reader.specs.Words.{number, ordered, spelled, word_at, halves, halves_at}
 use Rattle.reader.specs.declared.answer.Halves.{Halves}
 use Rattle.reader.specs.declared.endianity.RunTimeEndian.{RunTimeEndian}
 use Rattle.reader.specs.declared.endianity.RunTimeEndian.TheVariants.{Little, Big}
-use Rattle.reader.proofs.Numbers.{number_below, number_append, lt_or_le, above_fits}
+use Rattle.reader.proofs.Numbers.{number_below, number_append, above_fits}
 
 length_ordered : (e : RunTimeEndian) (xs : List ℕ) → length (ordered e xs) ≡ length xs
 length_ordered Little xs = refl
@@ -87,7 +88,7 @@ word_short s at n e h = rw (lt-leb (at + n) (length s) h)
 
 pub word_one : (s : List ℕ) (at : ℕ) (e f : RunTimeEndian) → word_at s at 1 e ≡ word_at s at 1 f
 unfolding word_at
-word_one s at e f = ⊎_elim yes no (lt_or_le at (length s))
+word_one s at e f = ⊎_elim yes no (cases_lt at (length s))
   where
     yes : at < length s → word_at s at 1 e ≡ word_at s at 1 f
     yes h = rw (spelled_one s at e h, spelled_one s at f h)
@@ -138,7 +139,7 @@ halves_got s at e {x} {y} h p q =
 
 -- 16 bytes as two words of 8
 pub halves_read : (s : List ℕ) (at : ℕ) (e : RunTimeEndian) → halves_at s at e ≡ and_then (word_at s at 8 e) (λ a. and_then (word_at s a.next 8 e) (λ b. gives (halved e a.value b.value) b.next))
-halves_read s at e = ⊎_elim short (λ h. ⊎_elim half there (lt_or_le (length s) (at + 16)) h) (lt_or_le (length s) (at + 8))
+halves_read s at e = ⊎_elim short (λ h. ⊎_elim half there (cases_lt (length s) (at + 16)) h) (cases_lt (length s) (at + 8))
   where
     short : length s < at + 8 → halves_at s at e ≡ and_then (word_at s at 8 e) (λ a. and_then (word_at s a.next 8 e) (λ b. gives (halved e a.value b.value) b.next))
     short h = rw (halves_short s at e (omega arith), word_short s at 8 e h)

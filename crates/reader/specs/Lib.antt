@@ -9,4 +9,5 @@ pub mod Padded
 pub mod Fields
 pub mod Limits
 pub mod Views
+pub mod Sound
 pub mod Parts

@@ -1,8 +1,6 @@
 -- What the private functions promise: how words and LEB128 numbers are put together.
-use Rattle.std.specs.Prelude.{cond, List, Result, Ok, Err, ◌≡◌, ℕ, ◌+◌, ◌-◌, ◌*◌, ◌^◌, ◌≤◌, ◌<◌, ltb, ℤ, length, take, drop, get_or}
-use Rattle.std.specs.Int.Signed.{mag}
-use Rattle.reader.specs.Twos.{twos}
-use Rattle.reader.specs.Answer.{Answer, got, refused, Read, gives}
+use Rattle.std.specs.Prelude.{List, Result, Ok, Err, ◌≡◌, ℕ, ◌+◌, ◌-◌, ◌*◌, ◌^◌, ◌≤◌, ◌<◌, ℤ, length, take, drop, get_or}
+use Rattle.reader.specs.Answer.{got, refused, Read}
 use Rattle.reader.specs.Errors.{number_of}
 use Rattle.reader.specs.Words.{number}
 use Rattle.reader.specs.Leb128.{most_bytes, extent, fits_unsigned, fits_signed}
@@ -10,7 +8,8 @@ use Rattle.reader.specs.Padded.{fewer, zero_last, sign_last}
 use Rattle.reader.specs.declared.endianity.RunTimeEndian.{RunTimeEndian}
 use Rattle.reader.specs.declared.endianity.RunTimeEndian.TheVariants.{Little, Big}
 use Rattle.reader.specs.declared.error.Error.{Error}
-use Rattle.reader.specs.declared.leb128.Parts.{Parts}
+use Rattle.reader.specs.declared.parts.Parts.{Parts}
+use Rattle.reader.specs.Sound.{Sound}
 
 -- x of a bytes and y of b bytes make a word of at most 8
 pub record Joins (a b x y : ℕ) : Type 0 where
@@ -24,12 +23,6 @@ abbrev pub joined : RunTimeEndian → ℕ → ℕ → ℕ → ℕ → ℕ
 joined Little a b x y = x + y * 2 ^ (8 * a)
 joined Big a b x y = x * 2 ^ (8 * b) + y
 
--- bits are left of w, v has sh of them, and b is seven bits
-pub record Sound (w v sh b : ℕ) : Type 0 where
-  pub some : sh < w
-  pub under : v < 2 ^ sh
-  pub seven : b < 128
-
 -- the number that starts at `at` ends before p, with its last byte b above v of sh bits
 pub record Ended (s : List ℕ) (at w v sh b p : ℕ) : Type 0 where
   pub sound : Sound w v sh b
@@ -40,18 +33,9 @@ pub record Ended (s : List ℕ) (at w v sh b p : ℕ) : Type 0 where
   pub worth : number 7 (take (p - at) (drop at s)) ≡ v + b * 2 ^ sh
 
 -- the parts of the number at a place, or its refusal, which is `long` where it has more bytes than it may
-abbrev pub Parted : List ℕ → ℕ → ℕ → Error → Result (Parts × ℕ) Error → Type 0
+abbrev pub Parted : List ℕ → ℕ → (w : ℕ) → Error → Result (Parts w × ℕ) Error → Type 0
 Parted s at w long (Ok x) = Ended s at w x.0.below x.0.shift x.0.last x.1
 Parted s at w long (Err e) = extent (most_bytes w) (number_of long) (drop at s) ≡ refused (number_of e)
-
--- the unsigned number of w bits by its parts: the last byte fits the bits left
-unfoldable pub whole_of : ℕ → ℕ → ℕ → ℕ → ℕ → Answer (Read ℕ)
-whole_of w v sh b p = cond (ltb b (2 ^ (w - sh))) (gives (v + b * 2 ^ sh) p) (refused 3)
-
--- and the signed one, whose last byte is signed
-unfoldable pub integer_of : ℕ → ℕ → ℕ → ℕ → ℕ → Answer (Read ℤ)
-integer_of w v sh b p =
-    cond (ltb (mag (twos 7 b)) (2 ^ (w - sh - 1))) (gives (twos (sh + 7) (v + b * 2 ^ sh)) p) (refused 4)
 
 -- an unsigned number was read from `at` on, and its last bytes say whether fewer would do
 pub record RuledUnsigned (s : List ℕ) (at : ℕ) (x : Read ℕ) : Type 0 where

@@ -12,6 +12,7 @@ pub enum Format {
     Dwarf32,
 }
 
+// Kept (4): two sizes of one format; `From<Format> for u8` could be only one of them, and would not say which.
 impl Format {
     // The bytes of an initial length.
     pub fn initial_length_size(self) -> u8

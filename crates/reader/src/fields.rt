@@ -1,4 +1,6 @@
 // Fields that headers and values share.
+// Kept (5): document 01 has "one byte slice, a position and a byte order". The position alone moves, and is half of an answer, so
+// a struct of the three would be made anew for each read: `read_u16(Input { at: next, ..input })` for `read_u16(bytes, next, endian)`.
 
 ghost use Rattle.std.specs.Prelude.{◌≡◌};
 ghost use Rattle.reader.specs.Fields.{initial_length_at, is_address_size, address_size_at, address_at, offset_at, long_length_at, null_terminated_at, skip_at};
@@ -17,14 +19,11 @@ fn read_long_length(bytes: &[u8], at: usize, endian: RunTimeEndian) -> Read<Init
     ensures { view_read result ≡ long_length_at bytes.now at endian }
 {
     let (unit_length, next) = read_u64(bytes, at, endian)?;
-    let format = Format::Dwarf64;
-    Ok((
-        Initial {
-            unit_length,
-            format,
-        },
-        next,
-    ))
+    let initial = Initial {
+        unit_length,
+        format: Format::Dwarf64,
+    };
+    Ok((initial, next))
 }
 
 #[tactic(auto, unfolding(crate::specs::Fields::initial_length_at))]
@@ -33,14 +32,11 @@ pub fn read_initial_length(bytes: &[u8], at: usize, endian: RunTimeEndian) -> Re
 {
     let (unit_length, next) = read_u32(bytes, at, endian)?;
     if unit_length < 0xfffffff0 {
-        let format = Format::Dwarf32;
-        return Ok((
-            Initial {
-                unit_length,
-                format,
-            },
-            next,
-        ));
+        let initial = Initial {
+            unit_length,
+            format: Format::Dwarf32,
+        };
+        return Ok((initial, next));
     }
     if unit_length == 0xffffffff {
         return read_long_length(bytes, next, endian);
@@ -72,6 +68,8 @@ pub fn read_address_size(bytes: &[u8], at: usize) -> Read<u64>
 pub fn read_address(bytes: &[u8], at: usize, address_size: u8, endian: RunTimeEndian) -> Read<u64>
     ensures { view_read result ≡ address_at bytes.now at address_size endian }
 {
+    // Kept (7): a width is a number in the bytes, and any may be asked for; an enum of the four widths, which `TryFrom` makes by
+    // this same match, would be matched here once more.
     match address_size {
         1 => read_u8(bytes, at),
         2 => read_u16(bytes, at, endian),
@@ -108,17 +106,14 @@ pub fn read_null_terminated_slice(bytes: &[u8], at: usize) -> Read<Span>
 }
 
 // Past `len` bytes.
+#[tactic(auto, unfolding(crate::specs::Fields::skip_at))]
 pub fn skip(bytes: &[u8], at: usize, len: u64) -> Result<usize, Error>
     ensures { view result ≡ skip_at bytes.now at len }
 {
-    let size = bytes.len();
-    if size < at {
+    // Kept (4): `usize` has 64 bits, and Rust has no `From` between it and `u64`.
+    let rest = bytes.len().checked_sub(at).ok_or(Error::UnexpectedEof)?;
+    if (rest as u64) < len {
         return Err(Error::UnexpectedEof);
     }
-    let rest = (size - at) as u64;
-    if rest < len {
-        return Err(Error::UnexpectedEof);
-    }
-    let next = at + (len as usize);
-    Ok(next)
+    Ok(at + len as usize)
 }

@@ -10,5 +10,6 @@ pub mod error; // Error
 pub mod fields; // initial length, address size, address, offset, zero-terminated bytes
 pub mod fill; // zeros in a lent slice
 pub mod leb128; // LEB128 numbers
+mod parts; // a LEB128 number before it is put together
 pub mod twos; // two's complement
 pub mod words; // words of 1, 2, 3, 4, 8 and 16 bytes

@@ -1,6 +1,8 @@
 // Words of 1, 2, 3, 4, 8 and 16 bytes.
 // The order is matched once, outside of what puts a word together, so that each order compiles to
 // loads and shifts without a branch.
+// Kept (2): each is a line over the private `read_word::<N>`, which requires 1 to 8 bytes; no public function of a library
+// requires anything. All but `read_u24` (gimli's `read_uint(3)`) have gimli's names; `read_u8` takes no order, `read_u128` gives halves.
 
 ghost use Rattle.std.specs.Prelude.{◌≡◌, ◌+◌, ◌*◌, ◌^◌, ◌≤◌, ◌<◌, length};
 ghost use Rattle.reader.specs.Parts.{Joins, joined};
@@ -13,7 +15,8 @@ use super::endianity::RunTimeEndian;
 use super::error::Error;
 
 // The word of two parts, of `a` and `b` bytes, that follow each other.
-fn join(first: u64, second: u64, a: u64, b: u64, endian: RunTimeEndian) -> u64
+#[tactic(auto, using(crate::proofs::WordLaws::shifted, crate::proofs::WordLaws::shifted_fits))]
+fn join(first: u64, second: u64, a: usize, b: usize, endian: RunTimeEndian) -> u64
     requires { Joins a b first second }
     ensures { result ≡ joined endian a b first second }
 {
@@ -24,6 +27,7 @@ fn join(first: u64, second: u64, a: u64, b: u64, endian: RunTimeEndian) -> u64
 }
 
 // The word of `N` bytes that are there.
+#[tactic(auto, using(crate::proofs::WordLaws::byte_spelled, crate::proofs::WordLaws::word_joins, crate::proofs::WordLaws::word_joined))]
 fn spelled<const N: usize>(bytes: &[u8], at: usize, endian: RunTimeEndian) -> u64
     requires width { (1 ≤ N) × (N ≤ 8) }
     requires there { at + N ≤ length bytes.now }
@@ -31,11 +35,12 @@ fn spelled<const N: usize>(bytes: &[u8], at: usize, endian: RunTimeEndian) -> u6
 {
     let mut word = u64::from(bytes[at]);
     for i in 1..N {
-        word = join(word, u64::from(bytes[at + i]), i as u64, 1, endian);
+        word = join(word, u64::from(bytes[at + i]), i, 1, endian);
     }
     word
 }
 
+#[tactic(auto, using(crate::proofs::WordLaws::word_got, crate::proofs::WordLaws::word_short))]
 fn read_word<const N: usize>(bytes: &[u8], at: usize, endian: RunTimeEndian) -> Read<u64>
     requires { (1 ≤ N) × (N ≤ 8) }
     ensures { view_read result ≡ word_at bytes.now at N endian }
