@@ -46,10 +46,6 @@ module _ (s : List ℕ) (over p : ℕ) where
 abbrev before : List Specification → Answer (Read (List Specification)) → Answer (Read (List Specification))
 before xs r = and_then r (λ y. gives (xs ++ y.value) y.next)
 
-before_none : (r : Answer (Read (List Specification))) → r ≡ before [] r
-before_none (got y) = refl
-before_none (refused k) = refl
-
 before_more : (xs : List Specification) (x : Specification) (r : Answer (Read (List Specification))) → before xs (with_specification x r) ≡ before (xs ++ (x ∷ [])) r
 before_more xs x (got y) = rw (append_assoc xs (x ∷ []) y.value)
 before_more xs x (refused k) = refl
@@ -67,22 +63,7 @@ pub record Taken (s : List ℕ) (at first : ℕ) (l : List ℕ) (n p : ℕ) (l' 
   pub is : specifications_at s entry_limit.over entry_limit.most at ≡ before xs (specifications_at s entry_limit.over (entry_limit.most - n) p)
   pub kept : After 3 first l (spec_words xs) (first + n) l'
 
-pub begun : (s : List ℕ) (at first : ℕ) (l : List ℕ) → Taken s at first l 0 at l
-begun s at first l =
-    let e : first + 0 ≡ first = omega arith in
-    record {
-      xs = [];
-      len = refl;
-      most = omega arith;
-      same = refl;
-      is = before_none (specifications_at s entry_limit.over entry_limit.most at);
-      kept = λ _. rw (e, append-nil);
-    }
-
 module _ {s : List ℕ} {at first : ℕ} {l : List ℕ} {n p : ℕ} {l' : List ℕ} (t : Taken s at first l n p l') where
-  pub stopped : (k : ℕ) → specifications_at s entry_limit.over (entry_limit.most - n) p ≡ refused k → specifications_at s entry_limit.over entry_limit.most at ≡ refused k
-  stopped k e = rw (t.is, e)
-
   pub ended : {x : Pair} {q : ℕ} → pair_at s p ≡ gives x q → x.form ≡ 0 → Took s at first l l' n q
   ended {x} {q} e z = record { xs = t.xs; len = t.len; is = rw (t.is, closed s entry_limit.over p x q e (entry_limit.most - n) z, append-nil); kept = t.kept }
 
@@ -102,4 +83,4 @@ module _ {s : List ℕ} {at first : ℕ} {l : List ℕ} {n p : ℕ} {l' : List �
       }
 
 -- a refusal of one specification
-pub ruleset refused_steps = (unread, full, valueless, stopped)
+pub ruleset refused_steps = (unread, full, valueless)

@@ -1,27 +1,17 @@
 -- Laws of the codes of rows, and of a search among them.
-use mathlib.Core.Bool.{true, cond, not}
+use mathlib.Core.Bool.{true, cond}
 use mathlib.Core.Path.{◌≡◌, refl, ap}
 use mathlib.Core.List.{List, [], ◌∷◌, ◌++◌}
-use Prim.Native.Nat.{ℕ, zero, suc, ◌+◌, ◌-◌, ◌*◌, ◌/◌, ◌≤◌, ◌<◌}
+use Prim.Native.Nat.{ℕ, zero, suc, ◌+◌, ◌*◌, ◌/◌, ◌≤◌, ◌<◌}
 use native.Mathlib.Omega.{arith}
 use native.Mathlib.Numerals.{add-one}
-use lib.Dec.{leb}
 use lib.ListN.{length, take, drop, get_or, length-drop, get_or-append}
-use lib.Seq.{get_or-drop, drop-drop, drop-append-le, length-take-le}
+use lib.Seq.{drop-append-le, length-take-le}
 use Rattle.std.proofs.lemmas.Bool.Decides.{nat_tests}
 use Rattle.std.proofs.lemmas.Grind.{common_steps}
 use Rattle.std.proofs.lemmas.List.{drop-take}
 use Rattle.abbrev.specs.Lookup.{column, index_of, leading_from}
-use Rattle.abbrev.specs.Steps.{Fresh}
-use Rattle.abbrev.specs.Table.{has}
-
--- the code of the i-th row and those after it
-pub column_next : (l : List ℕ) (n i : ℕ) → i < n → column (n - i) (drop (i * 5) l) ≡ get_or l (i * 5) 0 ∷ column (n - (i + 1)) (drop ((i + 1) * 5) l)
-column_next l n i h =
-    let e : n - i ≡ suc (n - (i + 1)) = omega arith in
-    let f : i * 5 + 0 ≡ i * 5 = omega arith in
-    let g : (i + 1) * 5 ≡ i * 5 + 5 = omega arith in
-    rw (e, get_or-drop (i * 5) l 0 0, f, g, ← drop-drop 5 (i * 5) l)
+use Rattle.abbrev.specs.Table.{has, Fresh}
 
 -- a leading code is in its own row
 pub leading_index : (k c : ℕ) (l : List ℕ) → c < leading_from k l → index_of (c + k) l ≡ c
@@ -32,14 +22,6 @@ leading_index k (suc c) (y ∷ ys) h = grind (arith, nat_tests, leading_index (s
 pub length_column : (n : ℕ) (l : List ℕ) → length (column n l) ≡ n
 length_column zero l = refl
 length_column (suc n) l = ap suc (length_column n (drop 5 l))
-
--- new where the search passes all
-unseen : (x : ℕ) (ys : List ℕ) → not (has x ys) ≡ leb (length ys) (index_of x ys)
-unseen x [] = refl
-unseen x (y ∷ ys) = grind (arith, nat_tests, unseen x ys)
-
-pub new_code : (x n : ℕ) (l : List ℕ) → not (has x (column n l)) ≡ leb n (index_of x (column n l))
-new_code x n l = rw (unseen x (column n l), length_column n l)
 
 column_take : (n : ℕ) (l : List ℕ) → column n (take (n * 5) l) ≡ column n l
 column_take zero l = refl
@@ -66,8 +48,5 @@ has_append c [] v = refl
 has_append c (x ∷ u) v = grind (arith, nat_tests, has_append c u v)
 
 -- no code is above the greater of the highest and one more code
-pub fresh_none : Fresh 0 []
-fresh_none c h = refl
-
 pub fresh_more : (h g code : ℕ) (seen : List ℕ) → Fresh h seen → h ≤ g → code ≤ g → Fresh g (seen ++ (code ∷ []))
 fresh_more h g code seen f k l c m = grind (arith, nat_tests, has_append c seen (code ∷ []), f c)

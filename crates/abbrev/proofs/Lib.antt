@@ -6,3 +6,4 @@ pub mod Bounds
 pub mod Fairs
 pub mod Laying
 pub mod Lookups
+pub mod Chunks

@@ -10,18 +10,19 @@ use borrow.Author.Tests.{lt-ltb, le-ltb, ltb-true, leb-true}
 use lib.Dec.{ltb, leb}
 use lib.ListN.{length, take, length-append}
 use Rattle.reader.specs.Answer.{Answer, got, refused, and_then, Read, gives}
-use Rattle.reader.proofs.Numbers.{lt_or_le}
+use Rattle.std.proofs.lemmas.Bool.{cases_lt}
 use Rattle.abbrev.specs.Lookup.{column}
 use Rattle.abbrev.specs.Rows.{spec_words, all_specs, row_words, rows_words, rows_from}
-use Rattle.abbrev.specs.Steps.{Fresh, verdict, inserted_number, rest, Took, Placed, Next, Last, Filled}
+use Rattle.abbrev.specs.Steps.{verdict, inserted_number, rest, Took, Placed, Next, NextIn, Same}
 use Rattle.abbrev.specs.Table.{Specification, Declaration, Limit, entry_limit, declared, head_at, specifications_at, declaration_at, declarations_at, with_declaration, has}
+use Rattle.abbrev.specs.declared.builder.TableBuilder.{TableBuilder}
 use Rattle.abbrev.specs.declared.table.Head.{Head}
 use Rattle.std.specs.Prelude.{Result, Err}
 use Rattle.reader.specs.Errors.{number_of}
 use Rattle.reader.proofs.Determined.{number_some}
 use Rattle.reader.specs.declared.error.Error.{Error}
 use Rattle.abbrev.proofs.Attributes.{words_append}
-use Rattle.abbrev.proofs.Columns.{column_more, fresh_none, fresh_more}
+use Rattle.abbrev.proofs.Columns.{column_more}
 
 -- what was read, with the next place
 abbrev read : {A : Type 0} → A → ℕ → Option (Read A)
@@ -77,7 +78,7 @@ row_left : (n r : ℕ) → ltb 0 (r - n) ≡ ltb n r
 row_left n r = ⊎_elim
     (λ h. lt-ltb 0 (r - n) (omega arith) ∙ sym (lt-ltb n r h))
     (λ h. le-ltb 0 (r - n) (omega arith) ∙ sym (le-ltb n r h))
-    (lt_or_le n r)
+    (cases_lt n r)
 
 judged_no : (d r f : Bool) (t : Answer (List Declaration)) → (verdict d r f ≡ 0 → ⊥) → judge d r f t ≡ refused (verdict d r f)
 judged_no true r f t h = refl
@@ -157,16 +158,12 @@ specs_snoc (x ∷ ds) d = rw (specs_snoc ds d, append_assoc)
 abbrev before : List Declaration → Answer (List Declaration) → Answer (List Declaration)
 before ds r = and_then r (λ xs. got (ds ++ xs))
 
-before_none : (r : Answer (List Declaration)) → r ≡ before [] r
-before_none (got xs) = refl
-before_none (refused k) = refl
-
 before_more : (ds : List Declaration) (d : Declaration) (r : Answer (List Declaration)) → before ds (with_declaration d r) ≡ before (ds ++ (d ∷ [])) r
 before_more ds d (got xs) = rw (append_assoc ds (d ∷ []) xs)
 before_more ds d (refused k) = refl
 
--- n declarations were read up to p, with `first` specifications, and no code is above `highest`
-pub record Run (s : List ℕ) (at : ℕ) (rows₀ specs₀ : List ℕ) (n first highest p : ℕ) (rows specs : List ℕ) : Type 0 where
+-- n declarations were read up to p, with `first` specifications
+pub record Run (s : List ℕ) (at : ℕ) (rows₀ specs₀ : List ℕ) (n first p : ℕ) (rows specs : List ℕ) : Type 0 where
   pub done : List Declaration
   pub len : length done ≡ n
   pub used : length (all_specs done) ≡ first
@@ -174,49 +171,14 @@ pub record Run (s : List ℕ) (at : ℕ) (rows₀ specs₀ : List ℕ) (n first 
   pub same_specs : length specs ≡ length specs₀
   pub row : n ≤ length rows / 5
   pub room : first ≤ length specs / 3
-  pub fresh : Fresh highest (column n rows)
   pub is : declarations_at s entry_limit (length rows₀ / 5) (length specs₀ / 3) [] at ≡ before done (rest s p n first rows specs)
   pub rows_are : take (n * 5) rows ≡ rows_words (rows_from 0 done)
   pub specs_are : take (first * 3) specs ≡ spec_words (all_specs done)
 
-pub begun : (s : List ℕ) (at : ℕ) (rows specs : List ℕ) → Run s at rows specs 0 0 0 at rows specs
-begun s at rows specs =
-    let e : (x : ℕ) → x - 0 ≡ x = λ x. omega arith in
-    record {
-      done = [];
-      len = refl;
-      used = refl;
-      same_rows = refl;
-      same_specs = refl;
-      row = omega arith;
-      room = omega arith;
-      fresh = fresh_none;
-      is = rw (e (length rows / 5), e (length specs / 3)) (before_none _);
-      rows_are = refl;
-      specs_are = refl;
-    }
-
-module _ {s : List ℕ} {at : ℕ} {rows₀ specs₀ : List ℕ} {n first highest p : ℕ} {rows specs : List ℕ} (t : Run s at rows₀ specs₀ n first highest p rows specs) where
-  pub stopped : (k : ℕ) → rest s p n first rows specs ≡ refused k → declarations_at s entry_limit (length rows₀ / 5) (length specs₀ / 3) [] at ≡ refused k
-  stopped k e = rw (t.is, e)
-
-  pub ended : {rows' specs' : List ℕ} → Last s p n first rows specs rows' specs' → Filled s at rows₀ specs₀ rows' specs' n first
-  ended x =
-      record {
-        done = t.done;
-        count_is = t.len;
-        row = rw x.same_rows t.row;
-        room = rw x.same_specs t.room;
-        used = t.used;
-        is = rw (t.is, x.is, append-nil);
-        rows_are = rw x.same_rows t.rows_are;
-        specs_are = rw x.same_specs t.specs_are;
-      }
-
-  pub further : {rows' specs' : List ℕ} {code count q : ℕ} (highest' : ℕ) → Next s p n first rows specs rows' specs' code count q
-      → highest ≤ highest' → code ≤ highest' → length rows' ≡ length rows → length specs' ≡ length specs
-      → Run s at rows₀ specs₀ (n + 1) (first + count) highest' q rows' specs'
-  further {rows'} {specs'} {code} {count} {q} highest' x g k u v =
+module _ {s : List ℕ} {at : ℕ} {rows₀ specs₀ : List ℕ} {n first p : ℕ} {rows specs : List ℕ} (t : Run s at rows₀ specs₀ n first p rows specs) where
+  pub further : {rows' specs' : List ℕ} {code count q : ℕ} → Next s p n first rows specs rows' specs' code count q → length rows' ≡ length rows → length specs' ≡ length specs
+      → Run s at rows₀ specs₀ (n + 1) (first + count) q rows' specs'
+  further {rows'} {specs'} {code} {count} {q} x u v =
       let z : 0 + length (all_specs t.done) ≡ first = omega (arith, t.used) in
       record {
         done = t.done ++ (x.d ∷ []);
@@ -226,8 +188,25 @@ module _ {s : List ℕ} {at : ℕ} {rows₀ specs₀ : List ℕ} {n first highes
         same_specs = v ∙ t.same_specs;
         row = omega (arith, x.row);
         room = omega (arith, x.room);
-        fresh = rw x.column_is (fresh_more highest highest' code (column n rows) t.fresh g k);
         is = rw (t.is, x.is) (before_more t.done x.d (rest s q (n + 1) (first + count) rows' specs'));
         rows_are = rw (x.rows_are, t.rows_are, rows_snoc, z);
         specs_are = rw (x.specs_are, t.specs_are, specs_snoc, words_append);
       }
+
+-- the same of a builder that began empty
+pub record Building (s : List ℕ) (at p : ℕ) (b₀ b : TableBuilder) : Type 0 where
+  pub same : Same b₀ b
+  pub run : Run s at b₀.rows.now b₀.specs.now b.count b.used p b.rows.now b.specs.now
+
+pub built : {s : List ℕ} {at p q : ℕ} {b₀ b b' : TableBuilder} → Building s at p b₀ b → Same b b' → NextIn s p b b' q → Building s at q b₀ b'
+built t e x =
+    record {
+      same =
+          record {
+            rows_kept = e.rows_kept ∙ t.same.rows_kept;
+            specs_kept = e.specs_kept ∙ t.same.specs_kept;
+            rows_length = e.rows_length ∙ t.same.rows_length;
+            specs_length = e.specs_length ∙ t.same.specs_length;
+          };
+      run = rw (x.count_is, x.used_is) (further t.run x.next e.rows_length e.specs_length);
+    }

@@ -5,3 +5,4 @@ pub mod Lookup
 pub mod Views
 pub mod Tabled
 pub mod Steps
+pub mod Lent

@@ -4,6 +4,11 @@ use mathlib.Core.List.{List, [], ◌∷◌, ◌++◌, Permᴰ}
 use Rattle.reader.specs.Answer.{Answer, got, refused}
 use Rattle.abbrev.specs.Table.{Specification, Declaration}
 
+-- the words of both slices
+pub record Table : Type 0 where
+  pub rows : List ℕ
+  pub specs : List ℕ
+
 -- name, form and constant of each
 abbrev pub spec_words : List Specification → List ℕ
 spec_words [] = []

@@ -1,13 +1,13 @@
 -- What the private functions promise of the lent words, step by step.
-use Rattle.std.specs.Prelude.{Bool, false, cond, ◌≡◌, List, [], ◌∷◌, ◌++◌, ℕ, ◌+◌, ◌-◌, ◌*◌, ◌/◌, ◌≤◌, ◌<◌, ltb, leb, length, take, get_or, Option, Result, Ok, Err, MatchOption, MatchResult}
+use Rattle.std.specs.Prelude.{Bool, cond, ◌≡◌, List, [], ◌∷◌, ◌++◌, ℕ, ◌+◌, ◌-◌, ◌*◌, ◌/◌, ◌≤◌, ◌<◌, ltb, leb, length, take, get_or, Option, Result, Ok, Err, MatchOption, MatchResult}
 use Rattle.reader.specs.Answer.{Answer, got, refused, gives}
 use Rattle.reader.specs.Errors.{number_of}
 use Rattle.abbrev.specs.Lookup.{column}
 use Rattle.abbrev.specs.Rows.{spec_words, all_specs, row_words, rows_words, rows_from}
 use Rattle.abbrev.specs.Table.{Specification, Declaration, entry_limit, specifications_at, declarations_at, with_declaration, has, abbreviations_at}
 use Rattle.abbrev.specs.Tabled.{Tabled}
-use Rattle.abbrev.specs.declared.table.Counts.{Counts}
-use Rattle.abbrev.specs.declared.table.Step.{Step}
+use Rattle.abbrev.specs.declared.builder.TableBuilder.{TableBuilder}
+use Rattle.abbrev.specs.declared.table.Head.{Head}
 use Rattle.reader.specs.declared.error.Error.{Error}
 
 -- n rows of k words are as they were, and ws after them, if there are m rows
@@ -24,10 +24,6 @@ pub record Took (s : List ℕ) (at first : ℕ) (l l' : List ℕ) (n q : ℕ) : 
 abbrev pub SpecsRead : List ℕ → ℕ → ℕ → List ℕ → List ℕ → Result (ℕ × ℕ) Error → Type 0
 SpecsRead s at first l l' (Ok x) = Took s at first l l' x.0 x.1
 SpecsRead s at first l l' (Err e) = specifications_at s entry_limit.over entry_limit.most at ≡ refused (number_of e)
-
--- no code above h was seen
-abbrev pub Fresh : ℕ → List ℕ → Type 0
-Fresh h seen = (c : ℕ) → h < c → has c seen ≡ false
 
 -- seen before, a row, its specifications: 0 where it is to be kept
 abbrev pub verdict : Bool → Bool → Bool → ℕ
@@ -63,11 +59,41 @@ pub record Last (s : List ℕ) (at n first : ℕ) (rows specs rows' specs' : Lis
   pub same_rows : rows' ≡ rows
   pub same_specs : specs' ≡ specs
 
-abbrev pub Entered : List ℕ → ℕ → ℕ → ℕ → List ℕ → List ℕ → List ℕ → List ℕ → Result (Option Step) Error → Type 0
-Entered s at n first rows specs rows' specs' r =
-    MatchResult r
-    (λ o. MatchOption o (Last s at n first rows specs rows' specs') (λ x. Next s at n first rows specs rows' specs' x.code x.count x.next))
-    (λ e. rest s at n first rows specs ≡ refused (number_of e))
+-- the same two slices
+pub record Same (b b' : TableBuilder) : Type 0 where
+  pub rows_kept : b'.rows.ghost_name ≡ b.rows.ghost_name
+  pub specs_kept : b'.specs.ghost_name ≡ b.specs.ghost_name
+  pub rows_length : length b'.rows.now ≡ length b.rows.now
+  pub specs_length : length b'.specs.now ≡ length b.specs.now
+
+-- one row more
+pub record More (b b' : TableBuilder) (count : ℕ) : Type 0 where
+  pub count_is : b'.count ≡ b.count + 1
+  pub used_is : b'.used ≡ b.used + count
+  pub specs_are : b'.specs.now ≡ b.specs.now
+
+pub record Inserted {A : Type 0} (b b' : TableBuilder) (h : Head) (count : ℕ) (r : Result A Error) : Type 0 where
+  pub same : Same b b'
+  pub placed : Placed b.count count (length b.specs.now / 3 - b.used) (h.code ∷ h.tag ∷ h.children ∷ b.used ∷ count ∷ []) b.rows.now b'.rows.now r
+  pub more : inserted_number r ≡ 0 → More b b' count
+
+pub record NextIn (s : List ℕ) (at : ℕ) (b b' : TableBuilder) (q : ℕ) : Type 0 where
+  pub code : ℕ
+  pub count : ℕ
+  pub count_is : b'.count ≡ b.count + 1
+  pub used_is : b'.used ≡ b.used + count
+  pub next : Next s at b.count b.used b.rows.now b.specs.now b'.rows.now b'.specs.now code count q
+
+pub record LastIn (s : List ℕ) (at : ℕ) (b b' : TableBuilder) : Type 0 where
+  pub count_is : b'.count ≡ b.count
+  pub used_is : b'.used ≡ b.used
+  pub last : Last s at b.count b.used b.rows.now b.specs.now b'.rows.now b'.specs.now
+
+pub record Entered (s : List ℕ) (at : ℕ) (b b' : TableBuilder) (r : Result (Option ℕ) Error) : Type 0 where
+  pub same : Same b b'
+  pub is : MatchResult r
+      (λ o. MatchOption o (LastIn s at b b') (NextIn s at b b'))
+      (λ e. rest s at b.count b.used b.rows.now b.specs.now ≡ refused (number_of e))
 
 -- a table in n rows and `first` specification rows
 pub record Filled (s : List ℕ) (at : ℕ) (rows specs rows' specs' : List ℕ) (n first : ℕ) : Type 0 where
@@ -80,9 +106,12 @@ pub record Filled (s : List ℕ) (at : ℕ) (rows specs rows' specs' : List ℕ)
   pub rows_are : take (n * 5) rows' ≡ rows_words (rows_from 0 done)
   pub specs_are : take (first * 3) specs' ≡ spec_words (all_specs done)
 
-abbrev pub Filling : List ℕ → ℕ → List ℕ → List ℕ → List ℕ → List ℕ → Result Counts Error → Type 0
-Filling s at rows specs rows' specs' (Ok x) = Filled s at rows specs rows' specs' x.abbreviations x.specifications
-Filling s at rows specs rows' specs' (Err e) = declarations_at s entry_limit (length rows / 5) (length specs / 3) [] at ≡ refused (number_of e)
+-- the whole table, where no row was in use
+pub record Built {A : Type 0} (s : List ℕ) (at : ℕ) (b b' : TableBuilder) (r : Result A Error) : Type 0 where
+  pub same : Same b b'
+  pub is : MatchResult r
+      (λ _. Filled s at b.rows.now b.specs.now b'.rows.now b'.specs.now b'.count b'.used)
+      (λ e. declarations_at s entry_limit (length b.rows.now / 5) (length b.specs.now / 3) [] at ≡ refused (number_of e))
 
 -- `Tabled` but for what is left after a refusal
 abbrev pub Parsed : List ℕ → ℕ → List ℕ → List ℕ → List ℕ → List ℕ → Result ℕ Error → Type 0

@@ -1,5 +1,5 @@
 -- Abbreviation tables (DWARF 2 to 5, section 7.5.3) as lists of declarations.
-use Rattle.std.specs.Prelude.{Bool, true, false, cond, List, [], ◌∷◌, ◌++◌, ℕ, zero, suc, ◌-◌, ltb, leb, eqb, length}
+use Rattle.std.specs.Prelude.{Bool, true, false, cond, ◌≡◌, ◌<◌, List, [], ◌∷◌, ◌++◌, ℕ, zero, suc, ◌-◌, ltb, leb, eqb, length}
 use Rattle.std.proofs.Math.Option.{Option, none, some}
 use Rattle.reader.specs.Answer.{Answer, got, refused, and_then, if_some, Read, gives}
 use Rattle.reader.specs.Leb128.{uleb_at, sleb_at}
@@ -107,6 +107,10 @@ declaration_at s l at =
 abbrev pub has : ℕ → List ℕ → Bool
 has x [] = false
 has x (y ∷ ys) = cond (eqb y x) true (has x ys)
+
+-- no code above h was seen
+abbrev pub Fresh : ℕ → List ℕ → Type 0
+Fresh h seen = (c : ℕ) → h < c → has c seen ≡ false
 
 abbrev pub with_declaration : Declaration → Answer (List Declaration) → Answer (List Declaration)
 with_declaration d r = and_then r (λ ds. got (d ∷ ds))

@@ -4,6 +4,9 @@
 
 #![tactic(auto)]
 
-pub mod lookup; // a code looked up in rows, and gimli's accessors
-pub mod rows; // words stored, cleared and searched
-pub mod table; // a table read into rows
+pub mod abbreviations; // both slices of a table as one
+mod builder; // a table that is being read
+pub mod lent; // both slices as they are lent
+pub mod lookup; // what rows say, and gimli's accessors
+mod rows; // words stored
+pub mod table; // what a table is made of

@@ -1,11 +1,11 @@
-// A code looked up in rows that anybody may have written, and gimli's accessors.
+// What rows that anybody may have written say, and gimli's accessors.
 
-ghost use Rattle.std.specs.Prelude.{◌≡◌, ◌+◌, ◌*◌, ◌/◌, ◌≤◌, eqb, length, drop};
-ghost use Rattle.abbrev.specs.Lookup.{specs_from, all_fair, specs_kept, keeps_sizes, judged_row, row_found, leading, lookup, specification_at, specification_in, implicit_const_of};
+ghost use Rattle.std.specs.Prelude.{◌≡◌, ◌+◌, eqb, length, slice_index, option_map};
+ghost use Rattle.std.specs.List.{list_all, find, take_while, enumerate_from};
+ghost use Rattle.abbrev.specs.Lookup.{spec_at, fair, specs_kept, row_at, keeps_sizes, judged_row, specification_at, specification_in, implicit_const_of};
 ghost use Rattle.abbrev.specs.Table.{entry_limit};
 ghost use Rattle.abbrev.specs.Views.{view_lookup, view_specified, view_constant, found_of, specification_of};
 
-use super::rows::find;
 use super::table::{IMPLICIT_CONST, MAX_ATTRIBUTES};
 use reader::error::Error;
 use reader::twos::from_word;
@@ -27,44 +27,34 @@ pub struct AttributeSpecification {
     pub constant: u64,
 }
 
-// Whether names and forms of `count` specifications have 16 bits.
-#[tactic(auto, using(crate::proofs::Fairs::specs_next))]
-fn all_fair(specs: &[u64], first: usize, count: usize) -> bool
-    requires { first + count ≤ length specs.now / 3 }
-    ensures { result ≡ all_fair (specs_from count (drop (first * 3) specs.now)) }
+// Whether names and forms have 16 bits.
+fn all_fair(specs: &[[u64; 3]]) -> bool
+    ensures { result ≡ list_all (λ x. fair (spec_at x 0)) specs.now }
 {
-    for i in 0..count {
-        let at = (first + i) * 3;
-        if 65535 < specs[at] || 65535 < specs[at + 1] {
-            return false;
-        }
-    }
-    true
+    specs
+        .iter()
+        .all(|&[name, form, _]| name <= 65535 && form <= 65535)
 }
 
 // Whether `count` specifications from `first` on keep document 01's sizes.
+#[tactic(auto, using(crate::proofs::Chunks::kept_chunks))]
 fn within(specs: &[u64], first: u64, count: u64) -> bool
     ensures { result ≡ specs_kept entry_limit.most specs.now first count }
 {
-    let whole = (specs.len() / 3) as u64;
+    let (specs, _) = specs.as_chunks::<3>();
+    let whole = specs.len() as u64;
     count <= MAX_ATTRIBUTES as u64
         && count <= whole
         && first <= whole - count
-        && all_fair(specs, first as usize, count as usize)
+        && all_fair(&specs[first as usize..(first + count) as usize])
 }
 
 // A row found for a code, held to document 01's sizes.
 #[tactic(auto, unfolding(crate::specs::Lookup::judged_row))]
-fn judge_row(
-    specs: &[u64],
-    code: u64,
-    tag: u64,
-    children: u64,
-    first: u64,
-    count: u64,
-) -> Result<Option<Abbreviation>, Error>
-    ensures { view_lookup result ≡ judged_row entry_limit.most specs.now (record { code = code; tag = tag; children = children; first = first; count = count }) }
+pub(crate) fn judge_row(specs: &[u64], row: &[u64; 5]) -> Result<Option<Abbreviation>, Error>
+    ensures { view_lookup result ≡ judged_row entry_limit.most specs.now (row_at row.now 0) }
 {
+    let &[code, tag, children, first, count] = row;
     if tag == 0 || 65535 < tag || 1 < children || !within(specs, first, count) {
         return Err(Error::SizeLimit);
     }
@@ -77,67 +67,40 @@ fn judge_row(
     }))
 }
 
-// The `i`-th row; absent past the whole rows.
-#[tactic(auto, unfolding(crate::specs::Lookup::row_found))]
-pub fn row(rows: &[u64], specs: &[u64], i: usize) -> Result<Option<Abbreviation>, Error>
-    ensures { view_lookup result ≡ row_found entry_limit.most rows.now specs.now i }
+// The lowest row with a code.
+pub(crate) fn find(rows: &[[u64; 5]], code: u64) -> Option<&[u64; 5]>
+    ensures { option_map (λ row. row.now) result ≡ find (λ row. eqb (slice_index row 0) code) rows.now }
 {
-    if rows.len() / 5 <= i {
-        return Ok(None);
-    }
-    let at = i * 5;
-    judge_row(
-        specs,
-        rows[at],
-        rows[at + 1],
-        rows[at + 2],
-        rows[at + 3],
-        rows[at + 4],
-    )
-}
-
-// gimli's `Abbreviations::get`: the lowest row with the code.
-#[tactic(auto, unfolding(crate::specs::Lookup::lookup))]
-pub fn get(rows: &[u64], specs: &[u64], code: u64) -> Result<Option<Abbreviation>, Error>
-    ensures { view_lookup result ≡ lookup entry_limit.most rows.now specs.now code }
-{
-    if code == 0 {
-        return Ok(None);
-    }
-    row(rows, specs, find(rows, rows.len() / 5, code))
+    rows.iter().find(|row| row[0] == code)
 }
 
 // How many leading rows hold the codes 1, 2, 3, ..
-#[tactic(auto, using(crate::proofs::Columns::column_next), unfolding(crate::specs::Lookup::leading))]
-pub fn leading(rows: &[u64]) -> usize
-    ensures { result ≡ leading rows.now }
+pub(crate) fn count_leading(rows: &[[u64; 5]]) -> usize
+    ensures { result ≡ length (take_while (λ x. eqb (slice_index x.1 0) (x.0 + 1)) (enumerate_from 0 rows.now)) }
 {
-    let n = rows.len() / 5;
-    // By code: with the row counted, LLVM takes the next row's place from the code that it loaded.
-    for code in 1..n + 1 {
-        if rows[(code - 1) * 5] != code as u64 {
-            return code - 1;
-        }
-    }
-    n
+    rows.iter()
+        .enumerate()
+        .take_while(|(i, row)| row[0] == *i as u64 + 1)
+        .count()
 }
 
 // One specification row by its number.
-#[tactic(auto, unfolding(crate::specs::Lookup::specification_at))]
+#[tactic(auto, using(crate::proofs::Chunks::spec_chunk), unfolding(crate::specs::Lookup::specification_at))]
 pub fn specification(specs: &[u64], i: usize) -> Result<Option<AttributeSpecification>, Error>
     ensures { view_specified result ≡ specification_at specs.now i }
 {
-    if specs.len() / 3 <= i {
+    let (specs, _) = specs.as_chunks::<3>();
+    let Some(spec) = specs.get(i) else {
         return Ok(None);
-    }
-    let at = i * 3;
-    if 65535 < specs[at] || 65535 < specs[at + 1] {
+    };
+    let &[name, form, constant] = spec;
+    if 65535 < name || 65535 < form {
         return Err(Error::SizeLimit);
     }
     Ok(Some(AttributeSpecification {
-        name: specs[at] as u16,
-        form: specs[at + 1] as u16,
-        constant: specs[at + 2],
+        name: name as u16,
+        form: form as u16,
+        constant,
     }))
 }
 
@@ -200,9 +163,6 @@ impl AttributeSpecification {
     pub fn implicit_const_value(self) -> Option<i64>
         ensures { view_constant result ≡ implicit_const_of (specification_of self) }
     {
-        if u64::from(self.form) == IMPLICIT_CONST {
-            return Some(from_word(self.constant));
-        }
-        None
+        (u64::from(self.form) == IMPLICIT_CONST).then_some(from_word(self.constant))
     }
 }

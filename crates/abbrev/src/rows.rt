@@ -1,27 +1,22 @@
-// Words stored and searched.
+// Rows stored.
 
-ghost use Rattle.std.specs.Prelude.{◌≡◌, ◌/◌, ◌≤◌, length};
-ghost use Rattle.abbrev.specs.Lookup.{column, index_of};
-ghost use Rattle.abbrev.specs.Rows.{Blank};
+ghost use Rattle.std.specs.Prelude.{◌≡◌, ◌+◌, ◌/◌, ◌<◌, ltb, length, is_some, IfNone};
+ghost use Rattle.abbrev.specs.Steps.{After};
 
-// No table: all words are zero.
-pub fn wipe(rows: &mut [u64], specs: &mut [u64])
-    ensures { Blank rows.old specs.old rows.new specs.new }
+// A row of `N` words behind `n` of them; none where there is no room. Inlined, since a call would have the
+// row stored, and loaded again at once.
+// Kept (6): tried with `as_chunks_mut` and `rows[n] = *row`: the proof doesn't close, since the library says nothing of what the
+// slice ends as.
+#[inline(always)]
+pub(crate) fn put_row<const N: usize>(words: &mut [u64], n: usize, row: &[u64; N]) -> Option<()>
+    requires { 0 < N }
+    ensures room { is_some result ≡ ltb n (length words.old / N) }
+    ensures kept { After N n words.old row.now (n + 1) words.new }
+    ensures same { IfNone result (words.new ≡ words.old) }
 {
-    rows.fill(0);
-    specs.fill(0);
-}
-
-// The lowest of `n` rows with a code, or `n`.
-#[tactic(auto, using(crate::proofs::Columns::column_next))]
-pub(crate) fn find(rows: &[u64], n: usize, code: u64) -> usize
-    requires { n ≤ length rows.now / 5 }
-    ensures { result ≡ index_of code (column n rows.now) }
-{
-    for i in 0..n {
-        if rows[i * 5] == code {
-            return i;
-        }
+    if words.len() / N <= n {
+        return None;
     }
-    n
+    words[n * N..n * N + N].copy_from_slice(row);
+    Some(())
 }
