@@ -1,4 +1,5 @@
 // A unit's header and its questions. Anybody can make one, so every question takes any header.
+// Kept (4): `as` between `usize` and `u64`, both of 64 bits here, between which Rust has no `From`.
 
 ghost use Rattle.std.specs.Prelude.{◌≡◌, ◌-◌, ◌^◌, ◌≤◌, min};
 ghost use Rattle.reader.specs.Views.{view};
@@ -90,12 +91,6 @@ impl UnitHeader {
     }
 
     // Where the entries start.
-    pub fn header_size(self) -> usize
-        ensures { result ≡ size_of_header self }
-    {
-        self.size_of_header()
-    }
-
     pub fn root_offset(self) -> usize
         ensures { result ≡ size_of_header self }
     {

@@ -1,4 +1,5 @@
 // The units of a section, one after the other.
+// Kept (5): bytes, place and order as in parse.rt.
 
 ghost use Rattle.std.specs.Prelude.{◌≡◌};
 ghost use Rattle.reader.specs.Views.{view_read};
@@ -21,6 +22,7 @@ pub struct UnitHeadersIter {
 }
 
 // A header or none, and the list as it goes on.
+// Kept (1): 01 says where the list stands after a refusal, at its end, and C is told so; a Result alone would lose it.
 #[derive(Clone, Copy, Debug, PartialEq, Eq)]
 pub struct Next {
     pub unit: Result<Option<UnitHeader>, Error>,
@@ -46,13 +48,14 @@ impl SectionId {
     ) -> Read<UnitHeader>
         ensures { view_read result ≡ header_at (section_of self) section.now offset endian }
     {
+        // Kept (4): as in header.rt.
         parse_header(self, section, offset as usize, endian)
     }
 }
 
 impl UnitHeadersIter {
     // A unit that is refused ends the list.
-    #[tactic(auto, unfolding(crate::specs::Units::next_unit))]
+    #[tactic(auto, using(crate::proofs::ParseLaws::header_there), unfolding(crate::specs::Units::next_unit))]
     pub fn next(self, section: &[u8], endian: RunTimeEndian) -> Next
         ensures answer { view_next result ≡ next_unit (section_of self.id) section.now self.offset endian }
         ensures section { result.units.id ≡ self.id }
