@@ -8,12 +8,6 @@ use borrow.Author.Tests.{ne_eqb}
 use lib.Dec.{eqb}
 use lib.IntN.{ℤ}
 use lib.ListN.{length}
-use Rattle.std.specs.Prelude.{Result}
-use Rattle.std.specs.Result.{IsErrAnd}
-use Rattle.std.proofs.lemmas.Result.{err_from_is_err_and}
-use Rattle.reader.specs.Errors.{number_of}
-use Rattle.reader.specs.Views.{view_read_by}
-use Rattle.reader.specs.declared.error.Error.{Error}
 use Rattle.reader.specs.Answer.{Answer, got, refused, and_then, Read, gives, Holds}
 use Rattle.reader.specs.Leb128.{uleb_at, sleb_at}
 use Rattle.reader.specs.Padded.{uleb_counted_at, sleb_counted_at}
@@ -30,10 +24,6 @@ use Rattle.attribute.specs.Steps.{Noted, noted}
 use Rattle.attribute.specs.declared.form.Row.{Row}
 use Rattle.attribute.specs.declared.value.Value.{Value}
 use Rattle.attribute.proofs.ReadLaws.{Turned, turned_begun, turned_more, turned_less, turned_stop, turned_end}
-
--- the exit of a `?`
-pub refuses_by : {A B : Type 0} (f : A → B) (r : Result (A × ℕ) Error) (e : Error) → IsErrAnd r (λ x. x ≡ e) → view_read_by f r ≡ refused (number_of e)
-refuses_by f r e h = let p = err_from_is_err_and r h in rw (p.1, p.2)
 
 -- ---- a value with a mark
 
@@ -112,8 +102,8 @@ pub record Named (s : List ℕ) (f at g p : ℕ) (b : Bool) : Type 0 where
   pub turned : Turned s f at g p
   pub marks : any_padded s (form_numbers s f at) ≡ b || any_padded s (form_numbers s g p)
 
-pub named_begun : (s : List ℕ) (f at : ℕ) → at ≤ length s → Named s f at f at false
-named_begun s f at h = record { turned = turned_begun s f at h; marks = refl }
+pub named_begun : (s : List ℕ) (f at : ℕ) → Named s f at f at false
+named_begun s f at = record { turned = turned_begun s f at; marks = refl }
 
 module _ {s : List ℕ} {f at g p : ℕ} {b : Bool} (t : Named s f at g p b) where
   module _ (h : g ≡ 0x16) where

@@ -361,11 +361,10 @@ form_end s start c e x at = go (final_form s x.form at)
 
 -- the form f at `at` has come to g at p
 pub record Turned (s : List ℕ) (f at g p : ℕ) : Type 0 where
-  pub inside : p ≤ length s
   pub is : final_form s f at ≡ final_form s g p
 
-pub turned_begun : (s : List ℕ) (f at : ℕ) → at ≤ length s → Turned s f at f at
-turned_begun s f at h = record { inside = h; is = refl }
+pub turned_begun : (s : List ℕ) (f at : ℕ) → Turned s f at f at
+turned_begun s f at = record { is = refl }
 
 module _ {s : List ℕ} {f at g p : ℕ} (t : Turned s f at g p) where
   module _ (h : g ≡ 0x16) where
@@ -373,7 +372,7 @@ module _ {s : List ℕ} {f at g p : ℕ} (t : Turned s f at g p) where
     named = t.is ∙ ap (λ (k : ℕ). final_form s k p) h ∙ final_named s p
 
     pub turned_more : {v q : ℕ} → uleb_at s p 16 ≡ gives v q → Turned s f at v q
-    turned_more u = let z = rw u at (uleb_ends s p 16) in record { inside = z.within; is = named ∙ rw u }
+    turned_more u = record { is = named ∙ rw u }
 
     pub turned_less : {v q : ℕ} → uleb_at s p 16 ≡ gives v q → length s - q < length s - p
     turned_less u = let z = rw u at (uleb_ends s p 16) in omega (arith, z.above, z.within)

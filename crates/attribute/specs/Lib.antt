@@ -5,6 +5,7 @@ pub mod Padded
 pub mod Read
 pub mod Skip
 pub mod Attributes
+pub mod Parts
 pub mod Steps
 pub mod Ask
 pub mod Views

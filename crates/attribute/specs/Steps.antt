@@ -1,9 +1,8 @@
 -- What the private functions ask for and promise.
-use Rattle.std.specs.Prelude.{Bool, true, false, cond, List, ◌≡◌, ℕ, ◌+◌, ◌*◌, ◌/◌, ◌^◌, ◌≤◌, ◌<◌, eqb, length, drop}
+use Rattle.std.specs.Prelude.{Bool, true, false, cond, List, ◌≡◌, ℕ, ◌*◌, ◌^◌, ◌<◌, eqb}
 use Rattle.reader.specs.Answer.{Answer, got, refused, and_then, Read, gives}
 use Rattle.reader.specs.Fields.{is_address_size, skip_at}
-use Rattle.abbrev.specs.Lookup.{specs_from, all_fair}
-use Rattle.abbrev.specs.Table.{entry_limit, implicit_const}
+use Rattle.abbrev.specs.Table.{implicit_const}
 use Rattle.attribute.specs.Forms.{case_of}
 use Rattle.attribute.specs.declared.form.Kind.{Kind}
 use Rattle.attribute.specs.declared.form.Sort.{Sort}
@@ -16,17 +15,6 @@ pub record Noted (A : Type 0) : Type 0 where
 
 abbrev pub noted : {A : Type 0} → Bool → Answer (Read A) → Answer (Read (Noted A))
 noted b r = and_then r (λ x. gives (record { value = x.value; padded = b }) x.next)
-
--- a position in bytes that start at an offset keeps 01's sizes
-pub record Within (count start at : ℕ) : Type 0 where
-  pub inside : at ≤ count
-  pub short : start + count < 2 ^ 63
-
--- so many specifications from a row on keep them
-pub record Listed (specs : List ℕ) (first count : ℕ) : Type 0 where
-  pub most : count ≤ entry_limit.most
-  pub there : first + count ≤ length specs / 3
-  pub fairs : all_fair (specs_from count (drop (first * 3) specs)) ≡ true
 
 -- the bytes that the first number of a sort has at most
 abbrev pub width_by : Sort → ℕ

@@ -68,7 +68,7 @@ abbrev pub view_final : Result (Final × ℕ) Error → Answer (Read (Noted ℕ)
 view_final r = view_read_by noted_form r
 
 abbrev pub noted_value : FormValue → Noted Value
-noted_value v = record { value = value v.kind v.low v.high; padded = v.padded }
+noted_value v = record { value = value v.kind v.raw.low v.raw.high; padded = v.raw.padded }
 
 abbrev pub view_form_value : Result (FormValue × ℕ) Error → Answer (Read (Noted Value))
 view_form_value r = view_read_by noted_value r

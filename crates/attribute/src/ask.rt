@@ -1,4 +1,6 @@
 // gimli's questions to a value.
+// Kept (2, 4): each has gimli's name and its own sorts of values, and most values have no answer, so that they
+// are no conversions. A function for u8 and u16 would stand beside these two lines, with a bound and laws.
 
 ghost use Rattle.std.specs.Prelude.{◌≡◌};
 ghost use Rattle.abbrev.specs.Views.{view_constant};
@@ -7,7 +9,7 @@ ghost use Rattle.attribute.specs.Ask.{udata_of, small_of, sdata_of, offset_of, e
 ghost use Rattle.attribute.specs.Forms.{case_of};
 ghost use Rattle.attribute.specs.Views.{view_value, view_number, view_part};
 
-use super::value::AttributeValue;
+use super::value::{AttributeValue, Value};
 use reader::error::Error;
 use unit::range::part;
 
@@ -27,17 +29,17 @@ impl AttributeValue {
     }
 
     #[tactic(auto, unfolding(crate::specs::Ask::small_of))]
-    pub fn u8_value(self) -> Option<u64>
+    pub fn u8_value(self) -> Option<u8>
         ensures { view_number result ≡ small_of 8 (view_value self) }
     {
-        self.udata_value().filter(|&n| n < 0x100)
+        self.udata_value().and_then(|n| u8::try_from(n).ok())
     }
 
     #[tactic(auto, unfolding(crate::specs::Ask::small_of))]
-    pub fn u16_value(self) -> Option<u64>
+    pub fn u16_value(self) -> Option<u16>
         ensures { view_number result ≡ small_of 16 (view_value self) }
     {
-        self.udata_value().filter(|&n| n < 0x1_0000)
+        self.udata_value().and_then(|n| u16::try_from(n).ok())
     }
 
     #[tactic(auto, using(std::proofs::lemmas::Int::ints), unfolding(crate::specs::Ask::sdata_of, reader::specs::Twos::twos, reader::specs::Twos::word))]
@@ -81,7 +83,7 @@ impl AttributeValue {
     pub fn is_outward(self) -> bool
         ensures { result ≡ (case_of (view_value self).kind).outward }
     {
-        self.numbers().kind.case().outward
+        Value::from(self).kind.case().outward
     }
 
     // The bytes of a block, an expression or a string out of the unit's own.

@@ -1,7 +1,7 @@
 // Forms: how a form's values stand in the bytes, and which case of `AttributeValue` they are.
 
 ghost use Rattle.std.specs.Prelude.{◌≡◌};
-ghost use Rattle.attribute.specs.Forms.{row, row_of, case_of};
+ghost use Rattle.attribute.specs.Forms.{row, case_of};
 
 // How a value stands in the bytes.
 #[derive(Clone, Copy, Debug, PartialEq, Eq)]
@@ -99,64 +99,59 @@ pub struct Row {
 }
 
 // The row of a form, one to a line.
+// Kept (1): a form is DWARF's own number, and the bytes can hold any: an enum of forms would be made by a match
+// of these 43 numbers, and matched here once more.
 #[tactic(auto, unfolding(crate::specs::Forms::row, crate::specs::Forms::row_in, crate::specs::Forms::forms))]
 pub(crate) fn row_of(form: u64) -> Row
     ensures { result ≡ row form }
 {
-    match form {
-        0x01 => Row::new(Layout::Address, Kind::Addr), // addr
-        0x03 => Row::new(Layout::Block2, Kind::Block), // block2
-        0x04 => Row::new(Layout::Block4, Kind::Block), // block4
-        0x05 => Row::new(Layout::U16, Kind::Data2), // data2
-        0x06 => Row::new(Layout::U32, Kind::Data4), // data4
-        0x07 => Row::new(Layout::U64, Kind::Data8), // data8
-        0x08 => Row::new(Layout::NullTerminated, Kind::String), // string
-        0x09 => Row::new(Layout::Block, Kind::Block), // block
-        0x0a => Row::new(Layout::Block1, Kind::Block), // block1
-        0x0b => Row::new(Layout::U8, Kind::Data1), // data1
-        0x0c => Row::new(Layout::U8, Kind::Flag), // flag
-        0x0d => Row::new(Layout::Sleb128, Kind::Sdata), // sdata
-        0x0e => Row::new(Layout::Offset, Kind::DebugStrRef), // strp
-        0x0f => Row::new(Layout::Uleb128, Kind::Udata), // udata
-        0x10 => Row::new(Layout::RefAddr, Kind::DebugInfoRef), // ref_addr
-        0x11 => Row::new(Layout::U8, Kind::UnitRef), // ref1
-        0x12 => Row::new(Layout::U16, Kind::UnitRef), // ref2
-        0x13 => Row::new(Layout::U32, Kind::UnitRef), // ref4
-        0x14 => Row::new(Layout::U64, Kind::UnitRef), // ref8
-        0x15 => Row::new(Layout::Uleb128, Kind::UnitRef), // ref_udata
-        0x17 => Row::new(Layout::Offset, Kind::SecOffset), // sec_offset
-        0x18 => Row::new(Layout::Block, Kind::Exprloc), // exprloc
-        0x19 => Row::new(Layout::Present, Kind::Flag), // flag_present
-        0x1a | 0x1f02 => Row::new(Layout::Uleb128, Kind::DebugStrOffsetsIndex), // strx, GNU_str_index
-        0x1b | 0x1f01 => Row::new(Layout::Uleb128, Kind::DebugAddrIndex), // addrx, GNU_addr_index
-        0x1c => Row::new(Layout::U32, Kind::DebugInfoRefSup), // ref_sup4
-        0x1d | 0x1f21 => Row::new(Layout::Offset, Kind::DebugStrRefSup), // strp_sup, GNU_strp_alt
-        0x1e => Row::new(Layout::U128, Kind::Data16), // data16
-        0x1f => Row::new(Layout::Offset, Kind::DebugLineStrRef), // line_strp
-        0x20 => Row::new(Layout::U64, Kind::DebugTypesRef), // ref_sig8
-        0x21 => Row::new(Layout::ImplicitConst, Kind::Sdata), // implicit_const
-        0x22 => Row::new(Layout::Uleb128, Kind::DebugLocListsIndex), // loclistx
-        0x23 => Row::new(Layout::Uleb128, Kind::DebugRngListsIndex), // rnglistx
-        0x24 => Row::new(Layout::U64, Kind::DebugInfoRefSup), // ref_sup8
-        0x25 => Row::new(Layout::U8, Kind::DebugStrOffsetsIndex), // strx1
-        0x26 => Row::new(Layout::U16, Kind::DebugStrOffsetsIndex), // strx2
-        0x27 => Row::new(Layout::U24, Kind::DebugStrOffsetsIndex), // strx3
-        0x28 => Row::new(Layout::U32, Kind::DebugStrOffsetsIndex), // strx4
-        0x29 => Row::new(Layout::U8, Kind::DebugAddrIndex), // addrx1
-        0x2a => Row::new(Layout::U16, Kind::DebugAddrIndex), // addrx2
-        0x2b => Row::new(Layout::U24, Kind::DebugAddrIndex), // addrx3
-        0x2c => Row::new(Layout::U32, Kind::DebugAddrIndex), // addrx4
-        0x1f20 => Row::new(Layout::Offset, Kind::DebugInfoRefSup), // GNU_ref_alt
-        _ => Row::new(Layout::Unknown, Kind::Udata),
-    }
-}
-
-impl Row {
-    fn new(layout: Layout, kind: Kind) -> Row
-        ensures { result ≡ row_of layout kind }
-    {
-        Row { layout, kind }
-    }
+    let (layout, kind) = match form {
+        0x01 => (Layout::Address, Kind::Addr), // addr
+        0x03 => (Layout::Block2, Kind::Block), // block2
+        0x04 => (Layout::Block4, Kind::Block), // block4
+        0x05 => (Layout::U16, Kind::Data2), // data2
+        0x06 => (Layout::U32, Kind::Data4), // data4
+        0x07 => (Layout::U64, Kind::Data8), // data8
+        0x08 => (Layout::NullTerminated, Kind::String), // string
+        0x09 => (Layout::Block, Kind::Block), // block
+        0x0a => (Layout::Block1, Kind::Block), // block1
+        0x0b => (Layout::U8, Kind::Data1), // data1
+        0x0c => (Layout::U8, Kind::Flag), // flag
+        0x0d => (Layout::Sleb128, Kind::Sdata), // sdata
+        0x0e => (Layout::Offset, Kind::DebugStrRef), // strp
+        0x0f => (Layout::Uleb128, Kind::Udata), // udata
+        0x10 => (Layout::RefAddr, Kind::DebugInfoRef), // ref_addr
+        0x11 => (Layout::U8, Kind::UnitRef), // ref1
+        0x12 => (Layout::U16, Kind::UnitRef), // ref2
+        0x13 => (Layout::U32, Kind::UnitRef), // ref4
+        0x14 => (Layout::U64, Kind::UnitRef), // ref8
+        0x15 => (Layout::Uleb128, Kind::UnitRef), // ref_udata
+        0x17 => (Layout::Offset, Kind::SecOffset), // sec_offset
+        0x18 => (Layout::Block, Kind::Exprloc), // exprloc
+        0x19 => (Layout::Present, Kind::Flag), // flag_present
+        0x1a | 0x1f02 => (Layout::Uleb128, Kind::DebugStrOffsetsIndex), // strx, GNU_str_index
+        0x1b | 0x1f01 => (Layout::Uleb128, Kind::DebugAddrIndex), // addrx, GNU_addr_index
+        0x1c => (Layout::U32, Kind::DebugInfoRefSup), // ref_sup4
+        0x1d | 0x1f21 => (Layout::Offset, Kind::DebugStrRefSup), // strp_sup, GNU_strp_alt
+        0x1e => (Layout::U128, Kind::Data16), // data16
+        0x1f => (Layout::Offset, Kind::DebugLineStrRef), // line_strp
+        0x20 => (Layout::U64, Kind::DebugTypesRef), // ref_sig8
+        0x21 => (Layout::ImplicitConst, Kind::Sdata), // implicit_const
+        0x22 => (Layout::Uleb128, Kind::DebugLocListsIndex), // loclistx
+        0x23 => (Layout::Uleb128, Kind::DebugRngListsIndex), // rnglistx
+        0x24 => (Layout::U64, Kind::DebugInfoRefSup), // ref_sup8
+        0x25 => (Layout::U8, Kind::DebugStrOffsetsIndex), // strx1
+        0x26 => (Layout::U16, Kind::DebugStrOffsetsIndex), // strx2
+        0x27 => (Layout::U24, Kind::DebugStrOffsetsIndex), // strx3
+        0x28 => (Layout::U32, Kind::DebugStrOffsetsIndex), // strx4
+        0x29 => (Layout::U8, Kind::DebugAddrIndex), // addrx1
+        0x2a => (Layout::U16, Kind::DebugAddrIndex), // addrx2
+        0x2b => (Layout::U24, Kind::DebugAddrIndex), // addrx3
+        0x2c => (Layout::U32, Kind::DebugAddrIndex), // addrx4
+        0x1f20 => (Layout::Offset, Kind::DebugInfoRefSup), // GNU_ref_alt
+        _ => (Layout::Unknown, Kind::Udata),
+    };
+    Row { layout, kind }
 }
 
 impl Kind {
@@ -170,6 +165,8 @@ impl Kind {
         }
     }
 
+    // Kept (4): a kind is no sort, but has one, as twelve have `Other`; a `From` would be this match behind
+    // `Sort::from(self)`.
     fn sort(self) -> Sort
         ensures { result ≡ (case_of self).sort }
     {

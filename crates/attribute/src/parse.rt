@@ -1,24 +1,27 @@
 // Values read by their specifications.
+// Kept (5): `part` and `listed` stay while the place moves, so that a struct with the place would be made for each
+// call and taken apart in it; so it would of what the public functions take, since 01 lends the bytes at each
+// call. `start, at` are C's, in this order.
 
-ghost use Rattle.std.specs.Prelude.{◌≡◌, ◌+◌, ◌*◌, ◌/◌, ◌<◌, length, drop};
-ghost use Rattle.abbrev.specs.Lookup.{spec_at, specs_from};
+ghost use Rattle.std.specs.Prelude.{◌≡◌};
 ghost use Rattle.abbrev.specs.Table.{entry_limit};
 ghost use Rattle.abbrev.specs.Views.{found_of, specification_of};
 ghost use Rattle.attribute.specs.Attributes.{keeps_place, read_attribute, read_attributes, stored};
 ghost use Rattle.attribute.specs.Read.{attribute_at, attributes_at};
-ghost use Rattle.attribute.specs.Steps.{Within, Listed};
 ghost use Rattle.attribute.specs.Views.{view_parsed, view_attributes};
 
-use super::raw::form_at;
-use super::value::{Attribute, value_of};
+use super::part::{Listed, Part, judged, specification};
+use super::raw::{FormValue, Raw, form_at};
+use super::source::Source;
+use super::value::{Attribute, Value, value_of};
 use abbrev::lookup::{Abbreviation, AttributeSpecification};
 use reader::answer::Read;
-use reader::common::Encoding;
-use reader::endianity::RunTimeEndian;
 use reader::error::Error;
 
 // Where the values end, and the attributes; places without one hold one fixed attribute, all of them
 // after a refusal.
+// Kept (1, 6): as `Read<[Attribute; 64]>`, tried, the array is copied once more, and the raw reader takes 272 ns
+// an entry for 241. With no heap there is no list in its place.
 #[derive(Clone, Copy, Debug, PartialEq, Eq)]
 pub struct Attributes {
     pub end: Result<usize, Error>,
@@ -38,23 +41,18 @@ pub fn keeps_place(count: usize, start: usize, at: usize) -> bool
 // In line: handed back through memory, an attribute would wait for its stores in `read_listed`.
 #[tactic(auto, using(crate::proofs::PaddedLaws::form_got, crate::proofs::PaddedLaws::form_plainly, crate::proofs::ReadLaws::form_fits), unfolding(crate::specs::Read::attribute_at))]
 #[inline(always)]
-fn parse_at(
-    bytes: &[u8],
-    start: usize,
-    at: usize,
-    encoding: Encoding,
-    endian: RunTimeEndian,
-    spec: AttributeSpecification,
-) -> Read<Attribute>
-    requires { Within (length bytes.now) start at }
-    ensures { view_parsed result ≡ attribute_at bytes.now start encoding endian (specification_of spec) at }
+fn parse_at(part: &Part<'_>, at: usize, spec: AttributeSpecification) -> Read<Attribute>
+    ensures { view_parsed result ≡ attribute_at part.now.bytes part.now.start part.now.encoding part.now.endian (specification_of spec) at }
 {
-    let (found, next) = form_at(bytes, start, encoding, endian, spec, at)?;
+    let (FormValue { kind, raw }, next) = form_at(part, at, spec)?;
+    let AttributeSpecification { name, form, .. } = spec;
+    let Raw { low, padded, high } = raw;
+    let value = Value { kind, low, high };
     let attribute = Attribute {
-        name: spec.name,
-        form: spec.form,
-        padded: found.padded,
-        value: value_of(encoding, spec.name, found.kind, found.low, found.high),
+        name,
+        form,
+        padded,
+        value: value_of(part.source.encoding, name, value),
     };
     Ok((attribute, next))
 }
@@ -63,56 +61,27 @@ fn parse_at(
 #[tactic(auto, unfolding(crate::specs::Attributes::read_attribute))]
 pub fn parse_attribute(
     bytes: &[u8],
-    start: usize,
     at: usize,
-    encoding: Encoding,
-    endian: RunTimeEndian,
+    source: Source,
     spec: AttributeSpecification,
 ) -> Read<Attribute>
-    ensures { view_parsed result ≡ read_attribute bytes.now start encoding endian (specification_of spec) at }
+    ensures { view_parsed result ≡ read_attribute bytes.now source.start source.encoding source.endian (specification_of spec) at }
 {
-    if keeps_place(bytes.len(), start, at) {
-        return parse_at(bytes, start, at, encoding, endian, spec);
-    }
-    Err(Error::SizeLimit)
+    let part = Part::new(bytes, at, source)?;
+    parse_at(&part, at, spec)
 }
 
-// The `i`-th of the specifications from row `first` on.
-#[tactic(auto, using(crate::proofs::ListLaws::listed_spec))]
-pub(crate) fn spec_at(specs: &[u64], first: usize, count: usize, i: usize) -> AttributeSpecification
-    requires listed { Listed specs.now first count }
-    requires i_lt_count { i < count }
-    ensures { specification_of result ≡ spec_at (drop (first * 3) specs.now) (i * 3) }
-{
-    let row = (first + i) * 3;
-    AttributeSpecification {
-        name: specs[row] as u16,
-        form: specs[row + 1] as u16,
-        constant: specs[row + 2],
-    }
-}
-
-// All values of the specifications from row `first` on. What stands after a refusal is written out
-// here and in `read_attributes`: handed back by a function, it costs a copy of the array more.
-fn read_listed(
-    bytes: &[u8],
-    start: usize,
-    at: usize,
-    encoding: Encoding,
-    endian: RunTimeEndian,
-    specs: &[u64],
-    first: usize,
-    count: usize,
-) -> Attributes
-    requires within { Within (length bytes.now) start at }
-    requires listed { Listed specs.now first count }
-    ensures { view_attributes result ≡ stored entry_limit.most (attributes_at bytes.now start encoding endian (specs_from count (drop (first * 3) specs.now)) at) }
+// All values, one after another. What stands after a refusal is written out here and in
+// `read_attributes`: handed back by a function, it costs a copy of the array more.
+// Kept (6): the array is the answer's; there is no heap.
+#[tactic(auto, using(crate::proofs::ListLaws::kept_more, crate::proofs::ListLaws::fair_row))]
+fn read_listed(part: &Part<'_>, at: usize, listed: &Listed<'_>) -> Attributes
+    ensures { view_attributes result ≡ stored entry_limit.most (attributes_at part.now.bytes part.now.start part.now.encoding part.now.endian listed.now at) }
 {
     let mut attrs = [Attribute::none(); 64];
     let mut next = at;
-    for i in 0..count {
-        let spec = spec_at(specs, first, count, i);
-        match parse_at(bytes, start, next, encoding, endian, spec) {
+    for (i, row) in listed.rows.iter().enumerate() {
+        match parse_at(part, next, specification(row)) {
             Ok((attribute, after)) => {
                 attrs[i] = attribute;
                 next = after;
@@ -131,26 +100,22 @@ fn read_listed(
     }
 }
 
-// All values of an abbreviation's specifications, one after another.
+// All values of an abbreviation's specifications.
 #[tactic(auto, unfolding(crate::specs::Attributes::read_attributes))]
 pub fn read_attributes(
     bytes: &[u8],
-    start: usize,
     at: usize,
-    encoding: Encoding,
-    endian: RunTimeEndian,
+    source: Source,
     abbreviation: Abbreviation,
     specs: &[u64],
 ) -> Attributes
-    ensures { view_attributes result ≡ stored entry_limit.most (read_attributes entry_limit.most bytes.now start encoding endian specs.now (found_of abbreviation) at) }
+    ensures { view_attributes result ≡ stored entry_limit.most (read_attributes entry_limit.most bytes.now source.start source.encoding source.endian specs.now (found_of abbreviation) at) }
 {
-    if keeps_place(bytes.len(), start, at) && abbreviation.keeps_sizes(specs) {
-        let first = abbreviation.first;
-        let count = abbreviation.count;
-        return read_listed(bytes, start, at, encoding, endian, specs, first, count);
-    }
-    Attributes {
-        end: Err(Error::SizeLimit),
-        attrs: [Attribute::none(); 64],
+    match judged(bytes, at, source, abbreviation, specs) {
+        Ok((part, listed)) => read_listed(&part, at, &listed),
+        Err(e) => Attributes {
+            end: Err(e),
+            attrs: [Attribute::none(); 64],
+        },
     }
 }

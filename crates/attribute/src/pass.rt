@@ -1,24 +1,23 @@
 // Values passed: read and judged as reading does, with nothing stored.
+// Kept (5): of `part, at, layout` the last two are others for each value, as in `parse`.
 
-ghost use Rattle.std.specs.Prelude.{◌≡◌, ℕ, ◌+◌, ◌*◌, ◌≤◌, length, drop};
+ghost use Rattle.std.specs.Prelude.{◌≡◌};
 ghost use Rattle.reader.specs.Answer.{end_of};
 ghost use Rattle.reader.specs.Views.{view, view_read};
-ghost use Rattle.abbrev.specs.Lookup.{specs_from};
 ghost use Rattle.abbrev.specs.Table.{entry_limit};
 ghost use Rattle.abbrev.specs.Views.{found_of, specification_of};
 ghost use Rattle.attribute.specs.Attributes.{read_attributes};
 ghost use Rattle.attribute.specs.Read.{raw_at, form_at, attributes_at};
 ghost use Rattle.attribute.specs.Skip.{past_block};
-ghost use Rattle.attribute.specs.Steps.{Listed, passed_address, passed_constant};
+ghost use Rattle.attribute.specs.Steps.{passed_address, passed_constant};
 
 use super::form::{Layout, row_of};
-use super::parse::{keeps_place, spec_at};
+use super::part::{Listed, Part, judged, specification};
 use super::raw::final_form;
+use super::source::Source;
 use abbrev::lookup::{Abbreviation, AttributeSpecification};
 use abbrev::table::IMPLICIT_CONST;
 use reader::answer::Read;
-use reader::common::Encoding;
-use reader::endianity::RunTimeEndian;
 use reader::error::Error;
 use reader::fields::{is_address_size, read_null_terminated_slice, skip};
 use reader::leb128::{sleb128, uleb128};
@@ -51,10 +50,10 @@ fn pass_block(bytes: &[u8], count: Read<u64>) -> Result<usize, Error>
     skip(bytes, at, len)
 }
 
-fn pass_constant(form: u16, at: usize) -> Result<usize, Error>
-    ensures { view result ≡ passed_constant form at }
+fn pass_constant(spec: AttributeSpecification, at: usize) -> Result<usize, Error>
+    ensures { view result ≡ passed_constant spec.form at }
 {
-    if u64::from(form) == IMPLICIT_CONST {
+    if u64::from(spec.form) == IMPLICIT_CONST {
         return Ok(at);
     }
     Err(Error::InvalidImplicitConst)
@@ -62,15 +61,19 @@ fn pass_constant(form: u16, at: usize) -> Result<usize, Error>
 
 #[tactic(auto, using(crate::proofs::ReadLaws::ends), unfolding(crate::specs::Read::raw_at))]
 fn pass_raw(
-    bytes: &[u8],
-    encoding: Encoding,
-    endian: RunTimeEndian,
+    part: &Part<'_>,
+    at: usize,
     spec: AttributeSpecification,
     layout: Layout,
-    at: usize,
 ) -> Result<usize, Error>
-    ensures { (start : ℕ) → view result ≡ end_of (raw_at bytes.now start encoding endian (specification_of spec) layout at) }
+    ensures { view result ≡ end_of (raw_at part.now.bytes part.now.start part.now.encoding part.now.endian (specification_of spec) layout at) }
 {
+    let bytes = part.bytes;
+    let Source {
+        encoding,
+        endian,
+        ..
+    } = part.source;
     match layout {
         Layout::U8 => skip(bytes, at, 1),
         Layout::U16 => skip(bytes, at, 2),
@@ -93,71 +96,43 @@ fn pass_raw(
         Layout::Block => pass_block(bytes, uleb128(bytes, at)),
         Layout::NullTerminated => end(read_null_terminated_slice(bytes, at)),
         Layout::Present => Ok(at),
-        Layout::ImplicitConst => pass_constant(spec.form, at),
+        Layout::ImplicitConst => pass_constant(spec, at),
         Layout::Unknown => Err(Error::UnknownForm),
     }
 }
 
 #[tactic(auto, using(crate::proofs::ReadLaws::form_end, crate::proofs::PaddedLaws::final_plainly))]
-fn pass_form(
-    bytes: &[u8],
-    encoding: Encoding,
-    endian: RunTimeEndian,
-    spec: AttributeSpecification,
-    at: usize,
-) -> Result<usize, Error>
-    requires { at ≤ length bytes.now }
-    ensures { (start : ℕ) → view result ≡ end_of (form_at bytes.now start encoding endian (specification_of spec) at) }
+fn pass_form(part: &Part<'_>, at: usize, spec: AttributeSpecification) -> Result<usize, Error>
+    ensures { view result ≡ end_of (form_at part.now.bytes part.now.start part.now.encoding part.now.endian (specification_of spec) at) }
 {
-    let (last, next) = final_form(bytes, u64::from(spec.form), at)?;
-    pass_raw(
-        bytes,
-        encoding,
-        endian,
-        spec,
-        row_of(last.form).layout,
-        next,
-    )
+    let (last, next) = final_form(part.bytes, u64::from(spec.form), at)?;
+    pass_raw(part, next, spec, row_of(last.form).layout)
 }
 
-fn pass_listed(
-    bytes: &[u8],
-    at: usize,
-    encoding: Encoding,
-    endian: RunTimeEndian,
-    specs: &[u64],
-    first: usize,
-    count: usize,
-) -> Result<usize, Error>
-    requires at_in_bounds { at ≤ length bytes.now }
-    requires listed { Listed specs.now first count }
-    ensures { (start : ℕ) → view result ≡ end_of (attributes_at bytes.now start encoding endian (specs_from count (drop (first * 3) specs.now)) at) }
+#[tactic(auto, using(crate::proofs::ListLaws::passed_laws, crate::proofs::ListLaws::fair_row))]
+fn pass_listed(part: &Part<'_>, at: usize, listed: &Listed<'_>) -> Result<usize, Error>
+    ensures { view result ≡ end_of (attributes_at part.now.bytes part.now.start part.now.encoding part.now.endian listed.now at) }
 {
     let mut next = at;
-    for i in 0..count {
-        let spec = spec_at(specs, first, count, i);
-        next = pass_form(bytes, encoding, endian, spec, next)?;
+    for row in listed.rows {
+        next = pass_form(part, next, specification(row))?;
     }
     Ok(next)
 }
 
 // Where reading the same would end, or its refusal.
+// Kept (7): with the loop as `impl Fn`, this and `skip_attributes` would still be a call each of a third function,
+// which requires what the loop promises, and `skip_listed` has a requires of its own.
 #[tactic(auto, unfolding(crate::specs::Attributes::read_attributes))]
 pub fn pass_attributes(
     bytes: &[u8],
-    start: usize,
     at: usize,
-    encoding: Encoding,
-    endian: RunTimeEndian,
+    source: Source,
     abbreviation: Abbreviation,
     specs: &[u64],
 ) -> Result<usize, Error>
-    ensures { view result ≡ end_of (read_attributes entry_limit.most bytes.now start encoding endian specs.now (found_of abbreviation) at) }
+    ensures { view result ≡ end_of (read_attributes entry_limit.most bytes.now source.start source.encoding source.endian specs.now (found_of abbreviation) at) }
 {
-    if keeps_place(bytes.len(), start, at) && abbreviation.keeps_sizes(specs) {
-        let first = abbreviation.first;
-        let count = abbreviation.count;
-        return pass_listed(bytes, at, encoding, endian, specs, first, count);
-    }
-    Err(Error::SizeLimit)
+    let (part, listed) = judged(bytes, at, source, abbreviation, specs)?;
+    pass_listed(&part, at, &listed)
 }

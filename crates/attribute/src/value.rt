@@ -4,7 +4,7 @@ ghost use Rattle.std.specs.Prelude.{◌≡◌};
 ghost use Rattle.attribute.specs.Attributes.{filler};
 ghost use Rattle.attribute.specs.Steps.{Fits};
 ghost use Rattle.attribute.specs.Value.{allow_section_offset, is_section_offset, value_under};
-ghost use Rattle.attribute.specs.Views.{value, view_value, view_attribute};
+ghost use Rattle.attribute.specs.Views.{view_value, view_attribute};
 
 use super::form::Kind;
 use reader::common::Encoding;
@@ -71,15 +71,10 @@ pub struct Value {
     pub high: u64,
 }
 
-impl Value {
-    fn new(kind: Kind, low: u64, high: u64) -> Value
-        ensures { result ≡ value kind low high }
-    {
-        Value { kind, low, high }
-    }
-}
-
 // gimli's `allow_section_offset`.
+// Kept (1, 5): a name is DWARF's own number, and the bytes can hold any: an enum of names would be a list of
+// all of them for these 14. In C's function they are two of
+// eleven parameters, and no pair.
 #[tactic(auto, unfolding(crate::specs::Value::allow_section_offset))]
 fn allow_section_offset(name: u16, version: u16) -> bool
     ensures { result ≡ allow_section_offset name version }
@@ -102,16 +97,11 @@ fn is_section_offset(encoding: Encoding, name: u16, size: u8) -> bool
 
 // The value of a form's case under a name.
 #[tactic(auto, using(crate::proofs::FormLaws::no_offset, crate::proofs::FormLaws::flag_of, crate::proofs::ValueLaws::word_kept), unfolding(crate::specs::Value::value_under))]
-pub(crate) fn value_of(
-    encoding: Encoding,
-    name: u16,
-    kind: Kind,
-    low: u64,
-    high: u64,
-) -> AttributeValue
-    requires { Fits kind low high }
-    ensures { view_value result ≡ value_under encoding name (value kind low high) }
+pub(crate) fn value_of(encoding: Encoding, name: u16, value: Value) -> AttributeValue
+    requires { Fits value.kind value.low value.high }
+    ensures { view_value result ≡ value_under encoding name value }
 {
+    let Value { kind, low, high } = value;
     match kind {
         Kind::Addr => AttributeValue::Addr(low),
         Kind::Block => AttributeValue::Block(low, high),
@@ -148,36 +138,36 @@ pub(crate) fn value_of(
     }
 }
 
-impl AttributeValue {
-    // Its case and its numbers.
-    pub fn numbers(self) -> Value
-        ensures { result ≡ view_value self }
+impl From<AttributeValue> for Value {
+    fn from(value: AttributeValue) -> Value
+        ensures { result ≡ view_value value }
     {
-        match self {
-            AttributeValue::Addr(n) => Value::new(Kind::Addr, n, 0),
-            AttributeValue::Block(start, len) => Value::new(Kind::Block, start, len),
-            AttributeValue::Data1(n) => Value::new(Kind::Data1, u64::from(n), 0),
-            AttributeValue::Data2(n) => Value::new(Kind::Data2, u64::from(n), 0),
-            AttributeValue::Data4(n) => Value::new(Kind::Data4, u64::from(n), 0),
-            AttributeValue::Data8(n) => Value::new(Kind::Data8, n, 0),
-            AttributeValue::Data16(low, high) => Value::new(Kind::Data16, low, high),
-            AttributeValue::Sdata(z) => Value::new(Kind::Sdata, to_word(z), 0),
-            AttributeValue::Udata(n) => Value::new(Kind::Udata, n, 0),
-            AttributeValue::Exprloc(start, len) => Value::new(Kind::Exprloc, start, len),
-            AttributeValue::Flag(b) => Value::new(Kind::Flag, u64::from(b), 0),
-            AttributeValue::SecOffset(n) => Value::new(Kind::SecOffset, n, 0),
-            AttributeValue::DebugAddrIndex(n) => Value::new(Kind::DebugAddrIndex, n, 0),
-            AttributeValue::UnitRef(n) => Value::new(Kind::UnitRef, n, 0),
-            AttributeValue::DebugInfoRef(n) => Value::new(Kind::DebugInfoRef, n, 0),
-            AttributeValue::DebugInfoRefSup(n) => Value::new(Kind::DebugInfoRefSup, n, 0),
-            AttributeValue::DebugLocListsIndex(n) => Value::new(Kind::DebugLocListsIndex, n, 0),
-            AttributeValue::DebugRngListsIndex(n) => Value::new(Kind::DebugRngListsIndex, n, 0),
-            AttributeValue::DebugTypesRef(n) => Value::new(Kind::DebugTypesRef, n, 0),
-            AttributeValue::DebugStrRef(n) => Value::new(Kind::DebugStrRef, n, 0),
-            AttributeValue::DebugStrRefSup(n) => Value::new(Kind::DebugStrRefSup, n, 0),
-            AttributeValue::DebugStrOffsetsIndex(n) => Value::new(Kind::DebugStrOffsetsIndex, n, 0),
-            AttributeValue::DebugLineStrRef(n) => Value::new(Kind::DebugLineStrRef, n, 0),
-            AttributeValue::String(start, len) => Value::new(Kind::String, start, len),
-        }
+        let (kind, low, high) = match value {
+            AttributeValue::Addr(n) => (Kind::Addr, n, 0),
+            AttributeValue::Block(start, len) => (Kind::Block, start, len),
+            AttributeValue::Data1(n) => (Kind::Data1, u64::from(n), 0),
+            AttributeValue::Data2(n) => (Kind::Data2, u64::from(n), 0),
+            AttributeValue::Data4(n) => (Kind::Data4, u64::from(n), 0),
+            AttributeValue::Data8(n) => (Kind::Data8, n, 0),
+            AttributeValue::Data16(low, high) => (Kind::Data16, low, high),
+            AttributeValue::Sdata(z) => (Kind::Sdata, to_word(z), 0),
+            AttributeValue::Udata(n) => (Kind::Udata, n, 0),
+            AttributeValue::Exprloc(start, len) => (Kind::Exprloc, start, len),
+            AttributeValue::Flag(b) => (Kind::Flag, u64::from(b), 0),
+            AttributeValue::SecOffset(n) => (Kind::SecOffset, n, 0),
+            AttributeValue::DebugAddrIndex(n) => (Kind::DebugAddrIndex, n, 0),
+            AttributeValue::UnitRef(n) => (Kind::UnitRef, n, 0),
+            AttributeValue::DebugInfoRef(n) => (Kind::DebugInfoRef, n, 0),
+            AttributeValue::DebugInfoRefSup(n) => (Kind::DebugInfoRefSup, n, 0),
+            AttributeValue::DebugLocListsIndex(n) => (Kind::DebugLocListsIndex, n, 0),
+            AttributeValue::DebugRngListsIndex(n) => (Kind::DebugRngListsIndex, n, 0),
+            AttributeValue::DebugTypesRef(n) => (Kind::DebugTypesRef, n, 0),
+            AttributeValue::DebugStrRef(n) => (Kind::DebugStrRef, n, 0),
+            AttributeValue::DebugStrRefSup(n) => (Kind::DebugStrRefSup, n, 0),
+            AttributeValue::DebugStrOffsetsIndex(n) => (Kind::DebugStrOffsetsIndex, n, 0),
+            AttributeValue::DebugLineStrRef(n) => (Kind::DebugLineStrRef, n, 0),
+            AttributeValue::String(start, len) => (Kind::String, start, len),
+        };
+        Value { kind, low, high }
     }
 }

@@ -1,7 +1,5 @@
-use Prim.Native.Nat.{◌*◌}
 use Rattle.attribute.proofs.ListLaws.{Passed}
-use lib.ListN.{drop}
 use Rattle.attribute.proofs.pass.pass_listed.Given as goal
 
-abbrev pub invariant-loop-i : goal.invariant-loop-i
-invariant-loop-i l = Passed l.bytes l.encoding l.endian l.count (drop (l.first * 3) l.specs) l.at l.i l.next
+abbrev pub invariant-loop-row : goal.invariant-loop-row
+invariant-loop-row l = Passed l.part.bytes l.part.start l.part.encoding l.part.endian l.listed l.at l.row-index l.next
