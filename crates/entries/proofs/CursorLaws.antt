@@ -76,9 +76,9 @@ module _ (most : ℕ) (s rows specs : List ℕ) where
 
   -- what is reached where items were passed to is what was sought
   pub arrived_at : (from : Cursor → EntriesRaw) (forward : (c : Cursor) → c.input.position ≤ (from c).position) (wanted : Entry → Bool) (c : Cursor) {p q : Passing}
-      → p ≡ record { raw = from c; offset = c.entry.offset; depth = c.entry.depth } → Arrived most s rows specs from wanted p q
-      → settled (advanced most s rows specs q.raw q.offset q.depth) ≡ seek most s rows specs from wanted c
+      → p ≡ record { raw = from c; last = record { offset = c.entry.offset; depth = c.entry.depth } } → Arrived most s rows specs from wanted p q
+      → settled (advanced most s rows specs q.raw q.last.offset q.last.depth) ≡ seek most s rows specs from wanted c
   arrived_at from forward wanted c e t =
       sym t.same
-      ∙ ap (λ (p : Passing). go_on wanted (seek most s rows specs from wanted) (advanced most s rows specs p.raw p.offset p.depth)) e
+      ∙ ap (λ (p : Passing). go_on wanted (seek most s rows specs from wanted) (advanced most s rows specs p.raw p.last.offset p.last.depth)) e
       ∙ sym (seek_step most s rows specs from forward wanted c)

@@ -24,7 +24,8 @@ use Rattle.attribute.proofs.PrefixLaws.{prefix_attributes}
 use Rattle.attribute.proofs.ReadLaws.{Onward, attributes_past}
 use Rattle.entries.specs.Entry.{Entry, is_null}
 use Rattle.entries.specs.Flat.{Item, place_at, depth_at, Stop, Reading, nothing, before, read_on, all_of, read_within, read_from, items_from}
-use Rattle.entries.specs.Read.{Source, known, abbreviation_at, depth_after, after_entry, entry_after, entry_at}
+use Rattle.attribute.specs.declared.source.Source.{Source}
+use Rattle.entries.specs.Read.{known, abbreviation_at, depth_after, after_entry, entry_after, entry_at}
 use Rattle.entries.proofs.DepthLaws.{abs_up, abs_down}
 use Rattle.entries.proofs.RawLaws.{abbreviation_in, found_keeps, tagged, tag_small}
 

@@ -11,5 +11,6 @@ pub mod CursorLaws
 pub mod OpenLaws
 pub mod SkipLaws
 pub mod KeepLaws
+pub mod NameLaws
 pub mod OneLaws
 pub mod SameLaws

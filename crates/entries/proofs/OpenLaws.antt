@@ -1,6 +1,6 @@
 -- Laws of opened units.
 use mathlib.Core.Bool.{Bool, true, false, cond}
-use mathlib.Core.Path.{refl, ap, ◌≡◌, ◌∙◌}
+use mathlib.Core.Path.{refl, sym, ◌≡◌, ◌∙◌}
 use mathlib.Core.List.{List}
 use Prim.Native.Nat.{ℕ, ◌/◌, ◌≤◌, ◌<◌}
 use borrow.Author.Tests.{le-leb, lt-leb}
@@ -13,16 +13,18 @@ use Rattle.reader.proofs.Answers.{then_then}
 use Rattle.abbrev.specs.Rows.{Blank}
 use Rattle.abbrev.specs.Table.{entry_limit, abbreviations_at}
 use Rattle.abbrev.specs.Tabled.{Tabled}
-use Rattle.reader.specs.Views.{view}
-use Rattle.std.specs.Prelude.{Result}
+use Rattle.reader.specs.Errors.{number_of}
+use Rattle.reader.specs.Views.{view, view_by}
+use Rattle.std.specs.Prelude.{Result, Err}
 use Rattle.reader.specs.declared.error.Error.{Error}
+use Rattle.reader.specs.declared.error.Error.TheVariants.{SizeLimit}
 use Rattle.unit.specs.Parse.{UnitSection, header_at}
 use Rattle.unit.specs.declared.header.UnitHeader.{UnitHeader}
-use Rattle.entries.specs.Open.{or_no_unit, own_unit, sections_kept, own_table, unit_from}
+use Rattle.entries.specs.Open.{own_unit, sections_kept, own_table, unit_from}
 use Rattle.entries.specs.Opened.{Opened}
 use Rattle.entries.specs.Raw.{judged}
-use Rattle.entries.specs.Views.{view_opened_unit}
-use Rattle.entries.specs.declared.open.OpenedUnit.{OpenedUnit}
+use Rattle.entries.specs.Views.{view_unit}
+use Rattle.entries.specs.declared.cursor.EntriesCursor.{EntriesCursor}
 
 -- where the table's section is kept, the header's own question 1 is the other one
 header_judges : {A : Type 0} (sec : UnitSection) (abbrevs units : List ℕ) (offset : ℕ) (e : RunTimeEndian) (f : Read UnitHeader → Answer A) → length abbrevs ≤ max_section → judged (sections_kept abbrevs units) (and_then (header_at sec units offset e) f) ≡ and_then (header_at sec units offset e) f
@@ -33,26 +35,29 @@ header_judges sec abbrevs units offset e f h = rw (le-leb (length abbrevs) max_s
     by true x = refl
     by false x = refl
 
-module _ {sec : UnitSection} {abbrevs units : List ℕ} {offset : ℕ} {e : RunTimeEndian} {rows₀ specs₀ rows specs : List ℕ} {r : OpenedUnit} where
+module _ {sec : UnitSection} {abbrevs units : List ℕ} {offset : ℕ} {e : RunTimeEndian} {rows₀ specs₀ rows specs : List ℕ} where
   -- the table's section is too long
-  pub long_table : max_section < length abbrevs → Blank rows₀ specs₀ rows specs → view_opened_unit r ≡ or_no_unit entry_limit.most e (refused 1) → Opened sec abbrevs units offset e rows₀ specs₀ rows specs r
+  pub long_table : max_section < length abbrevs → Blank rows₀ specs₀ rows specs → Opened sec abbrevs units offset e rows₀ specs₀ rows specs (Err SizeLimit)
   unfolding own_table unit_from
-  long_table h b v =
+  long_table h b =
       let k = lt-leb (length abbrevs) max_section h in
-      record { is = rw k v; left = rw k (b.no_rows, b.no_specs) }
+      record { is = rw k refl; left = rw k (b.no_rows, b.no_specs) }
 
   module _ (k : length abbrevs ≤ max_section) where
     -- a header was read, and then the table that it points to, or that refused
-    pub with_header : {h : UnitHeader} {p : ℕ} {t : Result ℕ Error} → header_at sec units offset e ≡ gives h p → Tabled abbrevs h.debug_abbrev_offset rows₀ specs₀ rows specs t → view_opened_unit r ≡ or_no_unit entry_limit.most e (and_then (view t) (λ n. got (own_unit entry_limit.most h e))) → Opened sec abbrevs units offset e rows₀ specs₀ rows specs r
+    pub with_header : {h : UnitHeader} {p : ℕ} {t : Result ℕ Error} {r : Result (UnitHeader × EntriesCursor) Error} → gives h p ≡ header_at sec units offset e → Tabled abbrevs h.debug_abbrev_offset rows₀ specs₀ rows specs t → view_by view_unit r ≡ and_then (view t) (λ n. got (own_unit entry_limit.most h e)) → Opened sec abbrevs units offset e rows₀ specs₀ rows specs r
     unfolding own_table unit_from
     with_header {h} a b v =
         record {
-          is = v ∙ rw (header_judges sec abbrevs units offset e _ k, b.is, a) (ap (or_no_unit entry_limit.most e) (then_then (abbreviations_at abbrevs h.debug_abbrev_offset entry_limit (length rows₀ / 5) (length specs₀ / 3)) _ _));
-          left = rw (header_judges sec abbrevs units offset e _ k, a) b.left;
+          is = v ∙ rw (header_judges sec abbrevs units offset e _ k, b.is, sym a) (then_then (abbreviations_at abbrevs h.debug_abbrev_offset entry_limit (length rows₀ / 5) (length specs₀ / 3)) _ _);
+          left = rw (header_judges sec abbrevs units offset e _ k, sym a) b.left;
         }
 
     -- no header was read
-    pub without_header : {n : ℕ} → header_at sec units offset e ≡ refused n → Blank rows₀ specs₀ rows specs → view_opened_unit r ≡ or_no_unit entry_limit.most e (refused n) → Opened sec abbrevs units offset e rows₀ specs₀ rows specs r
+    pub without_header : {x : Error} → refused (number_of x) ≡ header_at sec units offset e → Blank rows₀ specs₀ rows specs → Opened sec abbrevs units offset e rows₀ specs₀ rows specs (Err x)
     unfolding own_table unit_from
-    without_header a b v =
-        record { is = rw (header_judges sec abbrevs units offset e _ k, a) v; left = rw (header_judges sec abbrevs units offset e _ k, a) (b.no_rows, b.no_specs) }
+    without_header a b =
+        record {
+          is = rw (header_judges sec abbrevs units offset e _ k, sym a) refl;
+          left = rw (header_judges sec abbrevs units offset e _ k, sym a) (b.no_rows, b.no_specs);
+        }

@@ -31,6 +31,7 @@ use Rattle.entries.specs.Pass.{Passed, told_if, told}
 use Rattle.entries.specs.Raw.{keeps_raw, moved_to, Moved, source_of, Taken, taken as taken_from, raw_entry}
 use Rattle.entries.specs.Read.{abbreviation_at, raised, depth_after, entry_after, entry_at, same_depth}
 use Rattle.entries.specs.Steps.{KeptRaw, names_any, HasSpecs, may_jump, if_got, depth_by, passed_code, past_item, passed_item, Arrived}
+use Rattle.entries.specs.declared.pass.Last.{Last}
 use Rattle.entries.specs.declared.pass.Passing.{Passing}
 use Rattle.entries.specs.declared.raw.EntriesRaw.{EntriesRaw}
 use Rattle.entries.proofs.EntryLaws.{jump_with, jump_without}
@@ -252,14 +253,14 @@ module _ (most : ℕ) (s rows specs : List ℕ) where
       to_refused h = sought_found most s rows specs (by_jump (length s)) jumps_on (stands_at k) t (not_passed (λ i. stands_at k i.value ≡ true) q.raw h)
 
       pub to_further : (x : Passing) {v : EntriesRaw} → q.raw.position < length s → same_depth q.raw.depth k ≡ false → some v ≡ passed_item most s rows specs q.raw
-          → x.raw ≡ v → x.offset ≡ q.raw.start + q.raw.position → x.depth ≡ q.raw.depth → To p x
-      to_further x h n e a b c =
+          → x.raw ≡ v → x.last ≡ record { offset = q.raw.start + q.raw.position; depth = q.raw.depth } → To p x
+      to_further x h n e a b =
           passed_item_lem q.raw e
           (λ i r f.
           let z : Stands most (source_of q.raw) s rows specs q.raw.position q.raw.depth i = rw r at (stands most s rows specs q.raw) in
           let g = ap nat_abs z.depth in
           let m = jump_kept (length s) (moved_to q.raw i.next (depth_past most s rows specs q.raw)) i.value (item_kept most s rows specs q.raw i t.kept r) (omega (arith, g, t.kept.near, z.above)) in
-          sought_further most s rows specs (by_jump (length s)) jumps_on (stands_at k) t i x h r (ap (λ (d : ℤ). same_depth d k) z.depth ∙ n) (a ∙ f) (b ∙ sym z.offset) (c ∙ sym z.depth)
+          sought_further most s rows specs (by_jump (length s)) jumps_on (stands_at k) t i x h r (ap (λ (d : ℤ). same_depth d k) z.depth ∙ n) (a ∙ f) (ap (λ (l : Last). l.offset) b ∙ sym z.offset) (ap (λ (l : Last). l.depth) b ∙ sym z.depth)
           (subst (KeptRaw (length s)) (sym (a ∙ f)) m))
 
   -- ---- the loop that passes nulls
@@ -279,8 +280,8 @@ module _ (most : ℕ) (s rows specs : List ℕ) where
     nulls_refused e = sought_found most s rows specs plainly (λ c. le_refl c.input.position) is_entry t (rw (← e) tt)
 
     pub nulls_further : (x : Passing) {c r : ℕ} → c ≡ 0 → gives c r ≡ uleb_at s q.raw.position 64
-        → x.raw ≡ moved_to q.raw r (q.raw.depth -ℤ pos 1) → x.offset ≡ q.raw.start + q.raw.position → x.depth ≡ q.raw.depth → PastNulls p x
-    nulls_further x {c = m} {r} y u a b c =
+        → x.raw ≡ moved_to q.raw r (q.raw.depth -ℤ pos 1) → x.last ≡ record { offset = q.raw.start + q.raw.position; depth = q.raw.depth } → PastNulls p x
+    nulls_further x {c = m} {r} y u a b =
         let e : uleb_at s q.raw.position 64 ≡ gives 0 r = sym u ∙ ap (λ (n : ℕ). gives n r) y in
         let z = rw e at (uleb_ends s q.raw.position 64) in
         let h : q.raw.position < length s = omega (arith, z.above, z.within) in
@@ -288,4 +289,4 @@ module _ (most : ℕ) (s rows specs : List ℕ) where
         let f = code_null most s rows specs q.raw e in
         let n : item_next most s rows specs q.raw ≡ got i = null_next most s rows specs q.raw f in
         let g : x.raw ≡ moved_to q.raw r (depth_past most s rows specs q.raw) = a ∙ ap (λ (y : Answer (Read (Option Found))). moved_to q.raw r (depth_after y q.raw.depth)) (sym f) in
-        sought_further most s rows specs plainly (λ c. le_refl c.input.position) is_entry t i x h n refl g b c (subst (KeptRaw (length s)) (sym g) (item_kept most s rows specs q.raw i t.kept n))
+        sought_further most s rows specs plainly (λ c. le_refl c.input.position) is_entry t i x h n refl g (ap (λ (l : Last). l.offset) b) (ap (λ (l : Last). l.depth) b) (subst (KeptRaw (length s)) (sym g) (item_kept most s rows specs q.raw i t.kept n))

@@ -19,7 +19,8 @@ use Rattle.unit.specs.Range.{range_from}
 use Rattle.unit.specs.declared.header.UnitHeader.{UnitHeader}
 use Rattle.entries.specs.Open.{no_null, first_entry, entry_from}
 use Rattle.entries.specs.Raw.{opened, source_of, raw_entry}
-use Rattle.entries.specs.Read.{Source, known, abbreviation_at, entry_at, entry_after}
+use Rattle.attribute.specs.declared.source.Source.{Source}
+use Rattle.entries.specs.Read.{known, abbreviation_at, entry_at, entry_after}
 use Rattle.entries.specs.declared.raw.EntriesRaw.{EntriesRaw}
 
 module _ (most : ℕ) (src : Source) (s rows rows' specs : List ℕ) (h : (c : ℕ) → lookup most rows specs c ≡ lookup most rows' specs c) where

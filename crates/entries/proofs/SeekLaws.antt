@@ -277,22 +277,22 @@ module _ (most : ℕ) (s rows specs : List ℕ) where
 
     pub record Sought (p q : Passing) : Type 0 where
       pub kept : KeptRaw (length s) q.raw
-      pub same : go_on wanted sought (on p.raw p.offset p.depth) ≡ go_on wanted sought (on q.raw q.offset q.depth)
+      pub same : go_on wanted sought (on p.raw p.last.offset p.last.depth) ≡ go_on wanted sought (on q.raw q.last.offset q.last.depth)
 
     module _ {p q : Passing} (t : Sought p q) where
       pub sought_ended : length s ≤ q.raw.position → Arrived most s rows specs from wanted p q
       sought_ended h =
-          record { kept = t.kept; same = t.same ∙ ends_there q.raw q.offset q.depth wanted sought h ∙ sym (turned_stays (λ (e : Entry). true) reached (on q.raw q.offset q.depth) (ap (λ (r : Called). r.answer) (at_end q.raw q.offset q.depth h))) }
+          record { kept = t.kept; same = t.same ∙ ends_there q.raw q.last.offset q.last.depth wanted sought h ∙ sym (turned_stays (λ (e : Entry). true) reached (on q.raw q.last.offset q.last.depth) (ap (λ (r : Called). r.answer) (at_end q.raw q.last.offset q.last.depth h))) }
 
       pub sought_found : Holds (λ i. wanted i.value ≡ true) (next q.raw) → Arrived most s rows specs from wanted p q
-      sought_found h = record { kept = t.kept; same = t.same ∙ settles q.raw q.offset q.depth wanted sought h }
+      sought_found h = record { kept = t.kept; same = t.same ∙ settles q.raw q.last.offset q.last.depth wanted sought h }
 
       pub sought_further : (i : Read Entry) (x : Passing) → q.raw.position < length s → next q.raw ≡ got i → wanted i.value ≡ false
-          → x.raw ≡ from (taken q.raw i) → x.offset ≡ i.value.offset → x.depth ≡ i.value.depth → KeptRaw (length s) x.raw → Sought p x
+          → x.raw ≡ from (taken q.raw i) → x.last.offset ≡ i.value.offset → x.last.depth ≡ i.value.depth → KeptRaw (length s) x.raw → Sought p x
       sought_further i x h e n a b c k =
           record {
             kept = k;
             same =
-                t.same ∙ passes q.raw q.offset q.depth wanted sought i h e n ∙ seek_step (taken q.raw i)
-                ∙ ap (go_on wanted sought) (ap (λ (w : EntriesRaw). on w i.value.offset i.value.depth) (sym a) ∙ ap (λ (o : ℕ). on x.raw o i.value.depth) (sym b) ∙ ap (λ (d : ℤ). on x.raw x.offset d) (sym c));
+                t.same ∙ passes q.raw q.last.offset q.last.depth wanted sought i h e n ∙ seek_step (taken q.raw i)
+                ∙ ap (go_on wanted sought) (ap (λ (w : EntriesRaw). on w i.value.offset i.value.depth) (sym a) ∙ ap (λ (o : ℕ). on x.raw o i.value.depth) (sym b) ∙ ap (λ (d : ℤ). on x.raw x.last.offset d) (sym c));
           }

@@ -8,7 +8,8 @@ use Rattle.unit.specs.Range.{entries_buf}
 use Rattle.unit.specs.declared.header.UnitHeader.{UnitHeader}
 use Rattle.entries.specs.Entry.{Entry}
 use Rattle.entries.specs.Raw.{moved_to, opened, source_of}
-use Rattle.entries.specs.Read.{Source, entry_at, after_entry}
+use Rattle.attribute.specs.declared.source.Source.{Source}
+use Rattle.entries.specs.Read.{entry_at, after_entry}
 use Rattle.entries.specs.declared.raw.EntriesRaw.{EntriesRaw}
 
 -- an item: an entry or a null, and the place after it

@@ -1,5 +1,5 @@
 -- Readers opened by a unit's header, over the unit's own bytes.
-use Rattle.std.specs.Prelude.{Bool, cond, ◌&&◌, List, ℕ, leb, length, pos}
+use Rattle.std.specs.Prelude.{Bool, cond, ◌&&◌, List, ℕ, leb, length}
 use Rattle.reader.specs.Answer.{Answer, got, refused, and_then}
 use Rattle.reader.specs.Sizes.{max_section}
 use Rattle.reader.specs.declared.endianity.RunTimeEndian.{RunTimeEndian}
@@ -8,23 +8,14 @@ use Rattle.unit.specs.Header.{size_of_header}
 use Rattle.unit.specs.Parse.{UnitSection, header_at}
 use Rattle.unit.specs.Range.{entries_buf, range_from}
 use Rattle.unit.specs.declared.header.UnitHeader.{UnitHeader}
-use Rattle.entries.specs.Cursor.{Cursor, new_cursor, opened_cursor, no_cursor}
-use Rattle.entries.specs.Entry.{Entry, null_entry}
+use Rattle.entries.specs.Cursor.{Cursor, new_cursor, opened_cursor}
+use Rattle.entries.specs.Entry.{Entry}
 use Rattle.entries.specs.Raw.{Taken, judged, opened, start_of, unit_source, raw_entry}
 use Rattle.entries.specs.declared.raw.EntriesRaw.{EntriesRaw}
 
 -- 01, question 20: no null
 abbrev pub no_null : Taken → Answer Entry
 no_null r = and_then r.answer (λ b. cond b (got r.entry) (refused 20))
-
--- an entry, or after a refusal a null at offset and depth 0
-pub record EntryAt : Type 0 where
-  pub answer : Answer (Unit {0})
-  pub entry : Entry
-
-abbrev pub or_null : ℕ → Answer Entry → EntryAt
-or_null most (got x) = record { answer = got tt; entry = x }
-or_null most (refused n) = record { answer = refused n; entry = null_entry most 0 (pos 0) }
 
 -- the entry that stands first in a part
 unfoldable pub first_entry : ℕ → UnitHeader → List ℕ → List ℕ → List ℕ → ℕ → RunTimeEndian → Answer Entry
@@ -55,14 +46,6 @@ pub record OwnUnit : Type 0 where
 
 abbrev pub own_unit : ℕ → UnitHeader → RunTimeEndian → OwnUnit
 own_unit most h e = record { header = h; cursor = new_cursor most (start_of (unit_source h e)) }
-
-pub record UnitAt : Type 0 where
-  pub answer : Answer UnitHeader
-  pub cursor : Cursor
-
-abbrev pub or_no_unit : ℕ → RunTimeEndian → Answer OwnUnit → UnitAt
-or_no_unit most e (got u) = record { answer = got u.header; cursor = u.cursor }
-or_no_unit most e (refused n) = record { answer = refused n; cursor = no_cursor most e }
 
 -- 01, question 1, of both sections and before all reading
 abbrev pub sections_kept : List ℕ → List ℕ → Bool

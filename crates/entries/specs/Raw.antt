@@ -11,7 +11,8 @@ use Rattle.attribute.specs.Value.{Attribute}
 use Rattle.unit.specs.Header.{size_of_header}
 use Rattle.unit.specs.declared.header.UnitHeader.{UnitHeader}
 use Rattle.entries.specs.Entry.{Entry, null_entry, row_entry, is_null}
-use Rattle.entries.specs.Read.{Source, abbreviation_at, depth_after, entry_at, keeps_state}
+use Rattle.attribute.specs.declared.source.Source.{Source}
+use Rattle.entries.specs.Read.{abbreviation_at, depth_after, entry_at, keeps_state}
 use Rattle.entries.specs.declared.raw.EntriesRaw.{EntriesRaw}
 
 -- 01's sizes, over so many bytes

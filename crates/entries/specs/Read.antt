@@ -3,11 +3,10 @@ use Rattle.std.specs.Prelude.{Bool, false, cond, ◌&&◌, List, ℕ, ◌+◌, e
 use Rattle.std.proofs.Math.Option.{Option, none, some}
 use Rattle.reader.specs.Answer.{Answer, got, refused, and_then, if_some, Read, gives}
 use Rattle.reader.specs.Leb128.{uleb_at}
-use Rattle.reader.specs.declared.common.Encoding.{Encoding}
-use Rattle.reader.specs.declared.endianity.RunTimeEndian.{RunTimeEndian}
 use Rattle.abbrev.specs.Lookup.{Found, lookup, declaration_of}
 use Rattle.attribute.specs.Attributes.{keeps_place}
 use Rattle.attribute.specs.Read.{attributes_at}
+use Rattle.attribute.specs.declared.source.Source.{Source}
 use Rattle.entries.specs.Entry.{Entry, null_entry, entry_of, is_null}
 
 -- what a lookup says of a code that is not 0; 01, question 16
@@ -39,12 +38,6 @@ depth_after (got r) d = if_some r.value (d -ℤ pos 1) (λ f. raised f.children 
 -- the same from what was read
 abbrev pub after_entry : Entry → ℤ
 after_entry e = cond (is_null e) (e.depth -ℤ pos 1) (cond e.children (e.depth +ℤ pos 1) e.depth)
-
--- how values are read: the start of the bytes, the encoding and the order
-pub record Source : Type 0 where
-  pub start : ℕ
-  pub encoding : Encoding
-  pub endian : RunTimeEndian
 
 -- what follows a code: a null, or the entry of a found row with its values
 unfoldable pub entry_after : ℕ → Source → List ℕ → List ℕ → ℕ → ℤ → Read (Option Found) → Answer (Read Entry)

@@ -84,4 +84,4 @@ module _ (most : ℕ) (s rows specs : List ℕ) where
   -- items were passed: what is sought from one place is what is reached from the other
   pub record Arrived (from : Cursor → EntriesRaw) (wanted : Entry → Bool) (p q : Passing) : Type 0 where
     pub kept : KeptRaw (length s) q.raw
-    pub same : go_on wanted (seek most s rows specs from wanted) (advanced most s rows specs p.raw p.offset p.depth) ≡ settled (advanced most s rows specs q.raw q.offset q.depth)
+    pub same : go_on wanted (seek most s rows specs from wanted) (advanced most s rows specs p.raw p.last.offset p.last.depth) ≡ settled (advanced most s rows specs q.raw q.last.offset q.last.depth)

@@ -14,19 +14,18 @@ use Rattle.attribute.specs.Views.{view_attribute, view_value}
 use Rattle.attribute.specs.declared.value.Attribute as declared_attribute
 use Rattle.attribute.specs.declared.value.AttributeValue.{AttributeValue}
 use Rattle.attribute.specs.declared.value.Value.{Value}
+use Rattle.unit.specs.declared.header.UnitHeader.{UnitHeader}
 use Rattle.entries.specs.Entry.{Entry}
-use Rattle.entries.specs.Cursor.{Cursor, OpenedCursor, Current, Called}
-use Rattle.entries.specs.Open.{EntryAt, UnitAt}
+use Rattle.entries.specs.Cursor.{Cursor, Current, Called}
+use Rattle.entries.specs.Open.{OwnUnit}
 use Rattle.entries.specs.Pass.{Passed, PassedItems, with_words}
 use Rattle.entries.specs.Raw.{Moved, Taken, Listed}
 use Rattle.entries.specs.declared.cursor.Current as declared_current
+use Rattle.entries.specs.declared.cursor.Current.TheVariants as held
 use Rattle.entries.specs.declared.cursor.CursorNext.{CursorNext}
 use Rattle.entries.specs.declared.cursor.EntriesCursor.{EntriesCursor}
-use Rattle.entries.specs.declared.cursor.OpenedCursor as declared_opened
 use Rattle.entries.specs.declared.entry.Entry as declared_entry
 use Rattle.entries.specs.declared.flat.PassedEntries.{PassedEntries}
-use Rattle.entries.specs.declared.open.EntryAt as declared_entry_at
-use Rattle.entries.specs.declared.open.OpenedUnit.{OpenedUnit}
 use Rattle.entries.specs.declared.raw.EntriesRaw.{EntriesRaw}
 use Rattle.entries.specs.declared.raw.Moved as declared_moved
 use Rattle.entries.specs.declared.raw.RawAttributes.{RawAttributes}
@@ -114,17 +113,13 @@ view_raw_skipped r = view_moved view r
 abbrev pub view_cursor : EntriesCursor → Cursor
 view_cursor c = record { input = c.input; entry = view_entry c.entry }
 
-abbrev pub view_opened_cursor : declared_opened.OpenedCursor → OpenedCursor
-view_opened_cursor r = record { answer = view r.answer; cursor = view_cursor r.cursor }
-
 abbrev pub view_current : declared_current.Current → Current
-view_current r = record { is_there = r.is_entry; entry = view_entry r.entry }
+view_current (held.Entry e) = record { is_there = true; entry = view_entry e }
+view_current (held.Null e) = record { is_there = false; entry = view_entry e }
 
 abbrev pub view_cursor_next : CursorNext → Called
 view_cursor_next r = record { answer = view r.answer; cursor = view_cursor r.cursor }
 
-abbrev pub view_entry_at : declared_entry_at.EntryAt → EntryAt
-view_entry_at r = record { answer = view r.answer; entry = view_entry r.entry }
-
-abbrev pub view_opened_unit : OpenedUnit → UnitAt
-view_opened_unit r = record { answer = view r.answer; cursor = view_cursor r.cursor }
+-- a header and a cursor over its entries
+abbrev pub view_unit : UnitHeader × EntriesCursor → OwnUnit
+view_unit x = record { header = x.0; cursor = view_cursor x.1 }

@@ -9,6 +9,7 @@ ghost use Rattle.entries.specs.Views.{view_entry, view_named, view_named_value, 
 use attribute::value::{Attribute, AttributeValue};
 
 // gimli's `DebuggingInformationEntry`. Places past `count` hold one fixed attribute.
+// Kept (6): 01's form for an entry, an array of 64 attributes and a count, by value (no heap).
 #[derive(Clone, Copy)]
 pub struct Entry {
     pub tag: u16,
@@ -87,6 +88,8 @@ impl Entry {
 }
 
 // A null where it stands.
+// Kept (5): the other two functions are C's `tehkumir_list`, where offset and depth are parts of a place; here they
+// are mostly a state's own place and depth.
 pub fn null_at(offset: usize, depth: i64) -> Entry
     ensures { view_entry result ≡ null_entry entry_limit.most offset depth }
 {

@@ -7,6 +7,8 @@
 pub mod cursor; // EntriesCursor
 pub mod entry; // Entry
 pub mod flat; // items passed one after another
+mod kept; // a state that keeps the sizes
 pub mod open; // readers opened by a header
 mod pass; // items passed without building entries
 pub mod raw; // EntriesRaw
+mod step; // one step of it

@@ -1,161 +1,172 @@
 // Items that are only passed: no entry is built for them, unless its jump is wanted.
 
-ghost use Rattle.std.specs.Prelude.{◌≡◌, ◌+◌, ◌*◌, ◌/◌, ◌≤◌, length, drop};
+ghost use Rattle.std.specs.Prelude.{List, ℕ, ◌≡◌, eqb, length, slice_index};
 ghost use Rattle.reader.specs.Views.{view};
-ghost use Rattle.abbrev.specs.Lookup.{specs_from, leading};
+ghost use Rattle.std.specs.List.{list_any};
 ghost use Rattle.abbrev.specs.Table.{entry_limit};
-ghost use Rattle.entries.specs.Cursor.{jumped, plainly, by_jump, is_entry, stands_at};
+ghost use Rattle.entries.specs.Cursor.{plainly, by_jump, is_entry, stands_at};
 ghost use Rattle.entries.specs.Entry.{sibling};
-ghost use Rattle.entries.specs.Steps.{KeptRaw, names_any, HasSpecs, may_jump, if_got, passed_item, Arrived};
-ghost use Rattle.entries.specs.Views.{view_entry, view_found};
+ghost use Rattle.entries.specs.Steps.{HasSpecs, may_jump, if_got, passed_item, Arrived};
+ghost use Rattle.entries.specs.Pass.{told, told_if};
+ghost use Rattle.entries.specs.Raw.{raw_entry};
+ghost use Rattle.entries.specs.Views.{view_found, view_if, passed_of, view_passed};
 
-use super::entry::{Entry, SIBLING};
-use super::raw::{EntriesRaw, code_at, pass_values, past_code};
-use abbrev::lookup::{Abbreviation, leading};
+use super::entry::SIBLING;
+use super::kept::Kept;
+use super::raw::{EntriesRaw, code_at};
+use super::step::Step;
+use abbrev::abbreviations::Abbreviations;
+use abbrev::lookup::Abbreviation;
 use reader::error::Error;
 use reader::leb128::uleb128;
 
-// Where reading goes on, and the offset and depth of the item last held or passed.
+// The offset and depth of the item last held or passed.
 #[derive(Clone, Copy)]
-pub struct Passing {
-    pub raw: EntriesRaw,
+pub struct Last {
     pub offset: usize,
     pub depth: i64,
 }
 
-// Where reading goes on after an entry: at its jump, if it offers one.
-#[tactic(auto, using(crate::proofs::SeekLaws::jump_in), unfolding(crate::specs::Cursor::jumped))]
-pub(crate) fn jump_from(raw: EntriesRaw, entry: Entry, count: usize) -> EntriesRaw
-    requires { KeptRaw count raw }
-    ensures { result ≡ jumped count raw (view_entry entry) }
-{
-    match entry.jump(raw.start + raw.position, raw.start + count) {
-        Some(target) => EntriesRaw {
-            position: target as usize - raw.start,
-            depth: entry.depth,
-            ..raw
-        },
-        None => raw,
-    }
+// Where reading goes on.
+#[derive(Clone, Copy)]
+pub struct Passing {
+    pub raw: EntriesRaw,
+    pub last: Last,
 }
 
-// Whether one of `count` specifications has the name DW_AT_sibling.
-#[tactic(auto, using(abbrev::proofs::Fairs::specs_next))]
-fn names_sibling(specs: &[u64], first: usize, count: usize) -> bool
-    requires { first + count ≤ length specs.now / 3 }
-    ensures { result ≡ names_any sibling (specs_from count (drop (first * 3) specs.now)) }
+// Whether one of some specifications has the name DW_AT_sibling.
+fn names_sibling(rows: &[[u64; 3]]) -> bool
+    ensures { result ≡ list_any (λ row. eqb (slice_index row 0) sibling) rows.now }
 {
-    for i in 0..count {
-        if specs[(first + i) * 3] == u64::from(SIBLING) {
-            return true;
-        }
-    }
-    false
-}
-
-// Past an item by reading it whole.
-#[tactic(auto, using(crate::proofs::PassLaws::read_not_passed))]
-fn pass_read(
-    raw: EntriesRaw,
-    bytes: &[u8],
-    rows: &[u64],
-    specs: &[u64],
-) -> Result<EntriesRaw, Error>
-    requires { KeptRaw (length bytes.now) raw }
-    ensures { if_got (view result) ≡ passed_item entry_limit.most bytes.now rows.now specs.now raw }
-{
-    let read = raw.read_entry(bytes, rows, specs);
-    read.answer?;
-    Ok(jump_from(read.raw, read.entry, bytes.len()))
+    rows.iter().any(|row| row[0] == u64::from(SIBLING))
 }
 
 // Whether what a code stands for can offer a jump.
-fn may_jump(found: Option<Abbreviation>, specs: &[u64]) -> bool
-    requires { HasSpecs specs.now (view_found found) }
-    ensures { result ≡ may_jump specs.now (view_found found) }
+#[tactic(auto, using(crate::proofs::NameLaws::named_rows))]
+fn may_jump(found: Option<Abbreviation>, abbreviations: &Abbreviations<'_>) -> bool
+    requires { HasSpecs abbreviations.now.specs (view_found found) }
+    ensures { result ≡ may_jump abbreviations.now.specs (view_found found) }
 {
-    match found {
-        Some(abbreviation) => {
-            abbreviation.has_children
-                && names_sibling(specs, abbreviation.first, abbreviation.count)
+    let Some(
+        Abbreviation {
+            has_children,
+            first,
+            count,
+            ..
+        },
+    ) = found
+    else {
+        return false;
+    };
+    let (rows, _) = abbreviations.specs().as_chunks();
+    has_children && names_sibling(&rows[first..first + count])
+}
+
+// Of an entry its tag and how many values it has.
+fn tell(found: Option<Abbreviation>) -> Option<(u16, usize)>
+    ensures { view_if passed_of result ≡ told_if (view_found found) }
+{
+    found.map(|abbreviation| (abbreviation.tag, abbreviation.count))
+}
+
+impl Kept<'_> {
+    // Past the item at the state's place: what `pass_entry` says, and the state behind it.
+    #[tactic(auto, using(crate::proofs::PassLaws::told_refused, crate::proofs::PassLaws::told_passed, crate::proofs::PassLaws::told_not_passed, crate::proofs::RawLaws::code_onward, crate::proofs::RawLaws::raw_keeps))]
+    pub(crate) fn pass_one(
+        self,
+        abbreviations: &Abbreviations<'_>,
+    ) -> Result<(Option<(u16, usize)>, EntriesRaw), Error>
+        ensures { view_passed self.entry.raw result ≡ told (raw_entry entry_limit.most self.entry.raw self.entry.bytes.now abbreviations.now.rows abbreviations.now.specs) }
+    {
+        let Kept { bytes, raw } = self;
+        let (found, next) = code_at(bytes, abbreviations, raw.position)?;
+        let after = Step { raw, next }.pass_values(bytes, abbreviations, found)?;
+        Ok((tell(found), after))
+    }
+
+    // Past an item by reading it whole, and on to its jump.
+    #[tactic(auto, using(crate::proofs::PassLaws::read_not_passed))]
+    fn pass_read(self, abbreviations: &Abbreviations<'_>) -> Result<EntriesRaw, Error>
+        ensures { if_got (view result) ≡ passed_item entry_limit.most self.entry.bytes.now abbreviations.now.rows abbreviations.now.specs self.entry.raw }
+    {
+        let Kept { bytes, raw } = self;
+        let read = raw.read_entry(bytes, abbreviations);
+        read.answer?;
+        let after = Kept {
+            bytes,
+            raw: read.raw,
+        };
+        Ok(after.jump_from(read.entry))
+    }
+
+    // Past one item, and on to its jump.
+    #[tactic(auto, using(crate::proofs::PassLaws::passed_refused, crate::proofs::PassLaws::passed_by_code, crate::proofs::PassLaws::has_specs, crate::proofs::RawLaws::code_onward))]
+    fn pass_item(self, abbreviations: &Abbreviations<'_>) -> Result<EntriesRaw, Error>
+        ensures { if_got (view result) ≡ passed_item entry_limit.most self.entry.bytes.now abbreviations.now.rows abbreviations.now.specs self.entry.raw }
+    {
+        let Kept { bytes, raw } = self;
+        let (found, next) = code_at(bytes, abbreviations, raw.position)?;
+        if may_jump(found, abbreviations) {
+            return self.pass_read(abbreviations);
         }
-        None => false,
+        Step { raw, next }.pass_values(bytes, abbreviations, found)
     }
-}
 
-// Past one item, and on to its jump. The first `n` rows hold the codes 1, 2, 3, ..
-#[tactic(auto, using(crate::proofs::PassLaws::passed_refused, crate::proofs::PassLaws::passed_by_code, crate::proofs::PassLaws::has_specs, crate::proofs::RawLaws::code_onward))]
-fn pass_item(
-    raw: EntriesRaw,
-    bytes: &[u8],
-    rows: &[u64],
-    specs: &[u64],
-    n: usize,
-) -> Result<EntriesRaw, Error>
-    requires kept_raw { KeptRaw (length bytes.now) raw }
-    requires n_bound { n ≤ leading rows.now }
-    ensures { if_got (view result) ≡ passed_item entry_limit.most bytes.now rows.now specs.now raw }
-{
-    let (found, next) = code_at(bytes, rows, specs, n, raw.position)?;
-    if may_jump(found, specs) {
-        return pass_read(raw, bytes, rows, specs);
-    }
-    pass_values(raw, bytes, specs, found, next)
-}
-
-// How many codes to look up directly on the way to a depth: none where nothing is passed.
-fn leading_for(from: Passing, rows: &[u64], depth: i64) -> usize
-    ensures { result ≤ leading rows.now }
-{
-    if from.raw.depth == depth {
-        0
-    } else {
-        leading(rows)
-    }
-}
-
-// Passes items until the next one stands at a depth or is refused, or none is left.
-pub(crate) fn pass_to(
-    from: Passing,
-    bytes: &[u8],
-    rows: &[u64],
-    specs: &[u64],
-    depth: i64,
-) -> Passing
-    requires { KeptRaw (length bytes.now) from.raw }
-    ensures { Arrived entry_limit.most bytes.now rows.now specs.now (by_jump (length bytes.now)) (stands_at depth) from result }
-{
-    let n = leading_for(from, rows, depth);
-    let mut here = from;
-    while here.raw.position < bytes.len() && here.raw.depth != depth {
-        let Ok(raw) = pass_item(here.raw, bytes, rows, specs, n) else {
-            return here;
-        };
-        here = Passing {
-            raw,
-            offset: here.raw.start + here.raw.position,
-            depth: here.raw.depth,
-        };
-    }
-    here
-}
-
-// Passes nulls.
-#[tactic(auto, using(crate::proofs::RawLaws::uleb_onward, crate::proofs::PassLaws::nulls_found, crate::proofs::PassLaws::nulls_refused))]
-pub(crate) fn pass_nulls(from: Passing, bytes: &[u8], rows: &[u64], specs: &[u64]) -> Passing
-    requires { KeptRaw (length bytes.now) from.raw }
-    ensures { Arrived entry_limit.most bytes.now rows.now specs.now plainly is_entry from result }
-{
-    let mut here = from;
-    while let Ok((code, next)) = uleb128(bytes, here.raw.position) {
-        if code != 0 {
+    // Passes items until the next one stands at a depth or is refused, or none is left. The rows are
+    // counted where one is passed.
+    pub(crate) fn pass_to(
+        self,
+        last: Last,
+        abbreviations: &Abbreviations<'_>,
+        depth: i64,
+    ) -> Passing
+        ensures { Arrived entry_limit.most self.entry.bytes.now abbreviations.now.rows abbreviations.now.specs (by_jump (length self.entry.bytes.now)) (stands_at depth) (record { raw = self.entry.raw; last = last }) result }
+    {
+        let Kept { bytes, raw } = self;
+        let mut here = Passing { raw, last };
+        if raw.depth == depth {
             return here;
         }
-        here = Passing {
-            raw: past_code(here.raw, None, next),
-            offset: here.raw.start + here.raw.position,
-            depth: here.raw.depth,
-        };
+        let counted = abbreviations.counted();
+        while here.raw.position < bytes.len() && here.raw.depth != depth {
+            let kept = Kept {
+                bytes,
+                raw: here.raw,
+            };
+            let Ok(raw) = kept.pass_item(&counted) else {
+                return here;
+            };
+            here = Passing {
+                raw,
+                last: kept.place(),
+            };
+        }
+        here
     }
-    here
+
+    // Passes nulls, whatever the table.
+    pub(crate) fn pass_nulls(self, last: Last) -> Passing
+        ensures { (rows specs : List ℕ) → Arrived entry_limit.most self.entry.bytes.now rows specs plainly is_entry (record { raw = self.entry.raw; last = last }) result }
+    {
+        let Kept { bytes, raw } = self;
+        let mut here = Passing { raw, last };
+        while let Ok((code, next)) = uleb128(bytes, here.raw.position) {
+            if code != 0 {
+                return here;
+            }
+            let kept = Kept {
+                bytes,
+                raw: here.raw,
+            };
+            let step = Step {
+                raw: here.raw,
+                next,
+            };
+            here = Passing {
+                raw: step.past(None),
+                last: kept.place(),
+            };
+        }
+        here
+    }
 }

@@ -1,15 +1,15 @@
 use Rattle.entries.proofs.OpenLaws.{long_table, with_header, without_header}
-use mathlib.Core.Path.{sym}
+use borrow.Author.Rules.{rules}
 use Rattle.entries.proofs.open.open_unit_in.Goals as goal
 
 pub returns-then-abbrevs-gt-MAX_SECTION : goal.returns-then-abbrevs-gt-MAX_SECTION
-returns-then-abbrevs-gt-MAX_SECTION c = long_table c.if-abbrevs-gt-MAX_SECTION.true c.wipe.ensures c.refuse_unit.ensures
+returns-then-abbrevs-gt-MAX_SECTION c = let w = c.wipe.ensures in record { same = w.same; opened = long_table c.if-abbrevs-gt-MAX_SECTION.true w.blank }
 
-pub returns-in-Ok-abbreviations : goal.returns-in-Ok-abbreviations
-returns-in-Ok-abbreviations c = with_header c.if-abbrevs-gt-MAX_SECTION.false (sym c.in-Ok.ensures) c.abbreviations.ensures (rw (c.in-Ok-abbreviations.is, c.at_root.ensures))
+pub returns-in_ok-abbreviations-in-Ok : goal.returns-in_ok-abbreviations-in-Ok
+returns-in_ok-abbreviations-in-Ok c = let t = c.abbreviations.ensures in record { same = t.same; opened = with_header c.if-abbrevs-gt-MAX_SECTION.false c.in-Ok.ensures t.tabled (search rules) }
 
-pub returns-in-Err-abbreviations : goal.returns-in-Err-abbreviations
-returns-in-Err-abbreviations c = with_header c.if-abbrevs-gt-MAX_SECTION.false (sym c.in-Ok.ensures) c.abbreviations.ensures (rw c.in-Err-abbreviations.is c.refuse_unit-in-Err-abbreviations.ensures)
+pub returns-in_err-abbreviations-in-Ok : goal.returns-in_err-abbreviations-in-Ok
+returns-in_err-abbreviations-in-Ok c = let t = c.abbreviations.ensures in record { same = t.same; opened = with_header c.if-abbrevs-gt-MAX_SECTION.false c.in-Ok.ensures t.tabled (search rules) }
 
 pub returns-in-Err : goal.returns-in-Err
-returns-in-Err c = without_header c.if-abbrevs-gt-MAX_SECTION.false (sym c.in-Err.ensures) c.wipe-in-Err.ensures c.refuse_unit-in-Err.ensures
+returns-in-Err c = let w = c.wipe-in-Err.ensures in record { same = w.same; opened = without_header c.if-abbrevs-gt-MAX_SECTION.false c.in-Err.ensures w.blank }

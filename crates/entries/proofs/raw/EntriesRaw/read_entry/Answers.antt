@@ -7,4 +7,4 @@ use Rattle.entries.proofs.raw.EntriesRaw.read_entry.Goals as goal
 pub returns : goal.returns
 returns c =
     let a = c.args in
-    c.take_entry.ensures ∙ entry_read 64 a.self a.bytes.now a.rows.now a.specs.now (search rules) (rw c.in-Some.is at (sym c.in-Ok.ensures)) c.read_attributes-read.ensures (ap view c.in-Ok-end.is)
+    c.take_entry.ensures ∙ entry_read 64 a.self a.bytes.now a.abbreviations.now.rows a.abbreviations.now.specs (search rules) (rw c.in-Some.is at (sym c.in-Ok.ensures)) (rw (c.source.ensures, c.specs.ensures) at c.read_attributes-read.ensures) (ap view c.in-Ok-end.is)
