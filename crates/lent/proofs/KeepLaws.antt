@@ -1,6 +1,6 @@
 -- A lent call leaves a state that keeps 01's sizes where it was lent one; each is given by what the call promises.
 use mathlib.Core.Bool.{true}
-use mathlib.Core.Path.{◌≡◌, ap, ◌∙◌}
+use mathlib.Core.Path.{◌≡◌, sym, ap, ◌∙◌}
 use mathlib.Core.List.{List, []}
 use mathlib.Core.Option.{Option, none, some}
 use Prim.Native.Nat.{ℕ}
@@ -14,23 +14,24 @@ use Rattle.reader.proofs.Answers.{cond_by}
 use Rattle.abbrev.specs.Lookup.{Found}
 use Rattle.abbrev.specs.declared.lookup.Abbreviation.{Abbreviation}
 use Rattle.attribute.specs.Attributes.{pad}
+use Rattle.attribute.specs.declared.value.Attribute as declared_attribute
+use Rattle.entries.specs.declared.entry.Entry as declared_entry
 use Rattle.entries.specs.Raw.{keeps_raw, Moved, Taken, Listed, raw_abbreviation, raw_entry, raw_attributes, raw_skip}
 use Rattle.entries.specs.declared.raw.EntriesRaw.{EntriesRaw}
 use Rattle.entries.proofs.KeepLaws.{abbreviation_keeps, entry_keeps, attributes_keeps, skip_keeps}
 use Rattle.lent.specs.Calls.{skipped_call, values_end, after_code, lent_call}
 use Rattle.lent.specs.Views.{view_read_entry, view_read_abbreviation, view_read_attributes, view_skipped}
-use Rattle.lent.specs.declared.raw.ReadAttributes.{ReadAttributes}
-use Rattle.lent.specs.declared.raw.ReadEntry.{ReadEntry}
+use Rattle.lent.proofs.ViewLaws.{entry_leaves, attributes_leave}
 
-module _ (most : ℕ) (w : EntriesRaw) (s : List ℕ) (h : keeps_raw (length s) w ≡ true) {v : EntriesRaw} where
-  pub lent_entry_keeps : (rows specs : List ℕ) (r : ReadEntry) → view_read_entry r v ≡ raw_entry most w s rows specs → keeps_raw (length s) v ≡ true
-  lent_entry_keeps rows specs r e = ap (λ (x : Taken). keeps_raw (length s) x.raw) e ∙ entry_keeps most w s h rows specs
+module _ (most : ℕ) (w : EntriesRaw) (s : List ℕ) (h : keeps_raw (length s) w ≡ true) (v : EntriesRaw) where
+  pub lent_entry_keeps : (rows specs : List ℕ) (r : Result declared_entry.Entry Error) → view_read_entry most r v ≡ raw_entry most w s rows specs → keeps_raw (length s) v ≡ true
+  lent_entry_keeps rows specs r e = ap (λ (u : EntriesRaw). keeps_raw (length s) u) (sym (entry_leaves most r v)) ∙ ap (λ (x : Taken). keeps_raw (length s) x.raw) e ∙ entry_keeps most w s h rows specs
 
   pub lent_abbreviation_keeps : (rows specs : List ℕ) (r : Result (code.Option Abbreviation) Error) → view_read_abbreviation r v ≡ raw_abbreviation most w s rows specs → keeps_raw (length s) v ≡ true
   lent_abbreviation_keeps rows specs r e = ap (λ (x : Moved (Option Found)). keeps_raw (length s) x.raw) e ∙ abbreviation_keeps most w s h rows specs
 
-  pub lent_attributes_keeps : (specs : List ℕ) (f : Found) (r : ReadAttributes) → view_read_attributes r v ≡ raw_attributes most w s specs f → keeps_raw (length s) v ≡ true
-  lent_attributes_keeps specs f r e = ap (λ (x : Listed). keeps_raw (length s) x.raw) e ∙ attributes_keeps most w s h specs f
+  pub lent_attributes_keeps : (specs : List ℕ) (f : Found) (r : Result (List declared_attribute.Attribute) Error) → view_read_attributes most r v ≡ raw_attributes most w s specs f → keeps_raw (length s) v ≡ true
+  lent_attributes_keeps specs f r e = ap (λ (u : EntriesRaw). keeps_raw (length s) u) (sym (attributes_leave most r v)) ∙ ap (λ (x : Listed). keeps_raw (length s) x.raw) e ∙ attributes_keeps most w s h specs f
 
   pub lent_skip_keeps : (specs : List ℕ) (f : Found) (r : Result (Unit {0}) Error) → view_skipped r v ≡ raw_skip most w s specs f → keeps_raw (length s) v ≡ true
   lent_skip_keeps specs f r e = ap (λ (x : Moved (Unit {0})). keeps_raw (length s) x.raw) e ∙ skip_keeps most w s h specs f

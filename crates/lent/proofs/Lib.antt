@@ -2,3 +2,5 @@
 pub mod RefusalLaws
 pub mod SkipLaws
 pub mod KeepLaws
+pub mod ViewLaws
+pub mod CallLaws

@@ -18,7 +18,7 @@ use Rattle.entries.specs.Read.{abbreviation_at, depth_after, entry_at}
 use Rattle.entries.specs.declared.raw.EntriesRaw.{EntriesRaw}
 use Rattle.lent.specs.Calls.{values_end, after_code, skipped_call, lent_call}
 
-got_refused : {A B : Type 0} {a : A} {n : ℕ} → got a ≡ refused n → B
+pub got_refused : {A B : Type 0} {a : A} {n : ℕ} → got a ≡ refused n → B
 got_refused e = let z : ◌≡◌ {A = ℕ} 0 1 = cc in absurd (omega arith)
 
 moves_kept : {A : Type 0} (w : EntriesRaw) (d : ℤ) (r : Answer (Read A)) {n : ℕ} → (moves w d r).answer ≡ refused n → (moves w d r).raw ≡ w

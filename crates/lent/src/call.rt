@@ -1,24 +1,22 @@
 // One call by its number, on a held state that is lent for each. The entries of all numbers agree but in
 // their values, which 1 does not store.
 
-ghost use Rattle.std.specs.Prelude.{false, map, ◌≡◌, ◌+◌, ◌^◌, ◌<◌};
-ghost use Rattle.reader.specs.Answer.{got};
+ghost use Rattle.std.specs.Prelude.{map, ◌≡◌, ◌+◌, ◌^◌, ◌<◌};
 ghost use Rattle.reader.specs.Errors.{number_of};
-ghost use Rattle.reader.specs.Views.{view};
 ghost use Rattle.abbrev.specs.Table.{entry_limit};
 ghost use Rattle.abbrev.specs.Views.{found_of};
 ghost use Rattle.attribute.specs.Views.{view_attribute};
-ghost use Rattle.entries.specs.Entry.{null_entry};
-ghost use Rattle.entries.specs.Raw.{entry_here, refused_entry, raw_entry};
-ghost use Rattle.entries.specs.Views.{view_entry, view_raw_entry};
-ghost use Rattle.lent.specs.Calls.{values_end, skip_values, skipped_call, lent_call};
-ghost use Rattle.lent.specs.Steps.{read_values};
+ghost use Rattle.entries.specs.Raw.{entry_here, refused_entry, raw_attributes, raw_skip};
+ghost use Rattle.entries.specs.Views.{view_entry, view_raw_attributes, view_raw_entry};
+ghost use Rattle.lent.specs.Calls.{lent_call};
+ghost use Rattle.lent.specs.Steps.{ended, unstored, ByCode};
 
 use super::held::{read_abbreviation, read_attributes, read_entry, skip_attributes};
+use abbrev::abbreviations::Abbreviations;
 use abbrev::lookup::Abbreviation;
 use attribute::value::Attribute;
 use entries::entry::{Entry, null_at};
-use entries::raw::{EntriesRaw, RawEntry};
+use entries::raw::{EntriesRaw, Moved, RawAttributes, RawEntry};
 use reader::error::Error;
 
 // The calls, of which a caller names one by a byte.
@@ -32,6 +30,8 @@ enum CallKind {
     Listed,
 }
 
+// Kept (1, 2): the number is the caller's, of any value, and becomes the enum here; `TryFrom` would refuse what `call` answers.
+// `CursorCall` of capi has other calls: one enum for both would have to name them First, Second and Other.
 impl From<u8> for CallKind {
     ghost use Rattle.lent.specs.Kinds.{kind_of};
 
@@ -51,12 +51,18 @@ fn entry_of(given: EntriesRaw, found: Abbreviation, attrs: [Attribute; 64]) -> E
     requires { given.start + given.position < 2 ^ 63 }
     ensures { view_entry result ≡ entry_here given (found_of found) (map view_attribute attrs) }
 {
+    let Abbreviation {
+        tag,
+        has_children,
+        count,
+        ..
+    } = found;
     Entry {
-        tag: found.tag,
-        has_children: found.has_children,
+        tag,
+        has_children,
         offset: given.start + given.position,
         depth: given.depth,
-        count: found.count,
+        count,
         attrs,
     }
 }
@@ -72,93 +78,41 @@ fn refuse(given: EntriesRaw, error: Error) -> RawEntry
 }
 
 // What is said after the values of a found row.
-fn end(
-    given: EntriesRaw,
-    raw: EntriesRaw,
-    found: Abbreviation,
-    answer: Result<(), Error>,
-    attrs: [Attribute; 64],
-) -> RawEntry
+fn end(given: EntriesRaw, found: Abbreviation, values: RawAttributes) -> RawEntry
     requires { given.start + given.position < 2 ^ 63 }
-    ensures { view_raw_entry result ≡ values_end entry_limit.most given (found_of found) (map view_attribute attrs) (view answer) raw }
+    ensures { view_raw_entry result ≡ ended entry_limit.most given (found_of found) (view_raw_attributes values) }
 {
-    match answer {
+    match values.answer {
         Ok(()) => RawEntry {
             answer: Ok(true),
-            entry: entry_of(given, found, attrs),
-            raw,
+            entry: entry_of(given, found, values.attrs),
+            raw: values.raw,
         },
         Err(e) => refuse(given, e),
     }
 }
 
-fn skip(
-    given: EntriesRaw,
+// read_abbreviation, and behind a found row's code the values as `values` takes them. A refusal of either
+// keeps the state given.
+// Kept (5): Rattle wants `IsAlwaysCallable` of each function that calls a parameter; no bound and no type says it.
+#[tactic(auto, using(crate::proofs::SkipLaws::turn_place))]
+fn by_code<F: FnOnce(EntriesRaw, Abbreviation) -> RawAttributes>(
     raw: EntriesRaw,
     bytes: &[u8],
-    specs: &[u64],
-    found: Abbreviation,
+    abbreviations: &Abbreviations<'_>,
+    values: F,
 ) -> RawEntry
-    requires { given.start + given.position < 2 ^ 63 }
-    ensures { view_raw_entry result ≡ skip_values entry_limit.most bytes.now specs.now given raw (found_of found) }
+    requires { F.IsAlwaysCallable values }
+    ensures { ByCode entry_limit.most bytes.now abbreviations.now.rows abbreviations.now.specs raw (λ v d r. F.post values v d r) (view_raw_entry result) }
 {
-    let skipped = skip_attributes(raw, bytes, found, specs);
-    end(
-        given,
-        skipped.raw,
-        found,
-        skipped.answer,
-        null_at(0, 0).attrs,
-    )
-}
-
-fn read(
-    given: EntriesRaw,
-    raw: EntriesRaw,
-    bytes: &[u8],
-    specs: &[u64],
-    found: Abbreviation,
-) -> RawEntry
-    requires { given.start + given.position < 2 ^ 63 }
-    ensures { view_raw_entry result ≡ read_values entry_limit.most bytes.now specs.now given raw (found_of found) }
-{
-    let listed = read_attributes(raw, bytes, found, specs);
-    end(given, listed.raw, found, listed.answer, listed.attrs)
-}
-
-// A null stands at the code.
-fn null(given: EntriesRaw, raw: EntriesRaw) -> RawEntry
-    requires { given.start + given.position < 2 ^ 63 }
-    ensures { view_raw_entry result ≡ record { answer = got false; entry = null_entry entry_limit.most (given.start + given.position) given.depth; raw = raw } }
-{
-    RawEntry {
-        answer: Ok(false),
-        entry: null_at(given.start + given.position, given.depth),
-        raw,
-    }
-}
-
-// read_abbreviation and skip_attributes.
-#[tactic(auto, unfolding(crate::specs::Calls::skipped_call))]
-fn skip_entry(raw: EntriesRaw, bytes: &[u8], rows: &[u64], specs: &[u64]) -> RawEntry
-    ensures { view_raw_entry result ≡ skipped_call entry_limit.most bytes.now rows.now specs.now raw }
-{
-    let coded = read_abbreviation(raw, bytes, rows, specs);
+    let coded = read_abbreviation(raw, bytes, abbreviations);
     match coded.answer {
-        Ok(Some(found)) => skip(raw, coded.raw, bytes, specs, found),
-        Ok(None) => null(raw, coded.raw),
-        Err(e) => refuse(raw, e),
-    }
-}
-
-// read_abbreviation and read_attributes.
-fn list_entry(raw: EntriesRaw, bytes: &[u8], rows: &[u64], specs: &[u64]) -> RawEntry
-    ensures { view_raw_entry result ≡ raw_entry entry_limit.most raw bytes.now rows.now specs.now }
-{
-    let coded = read_abbreviation(raw, bytes, rows, specs);
-    match coded.answer {
-        Ok(Some(found)) => read(raw, coded.raw, bytes, specs, found),
-        Ok(None) => null(raw, coded.raw),
+        Ok(Some(found)) => end(raw, found, values(coded.raw, found)),
+        Ok(None) => RawEntry {
+            answer: Ok(false),
+            entry: null_at(raw.start + raw.position, raw.depth),
+            raw: coded.raw,
+        },
         Err(e) => refuse(raw, e),
     }
 }
@@ -166,12 +120,33 @@ fn list_entry(raw: EntriesRaw, bytes: &[u8], rows: &[u64], specs: &[u64]) -> Raw
 // 0 is read_entry, 1 read_abbreviation and skip_attributes, any other number read_abbreviation and
 // read_attributes. An entry or null stands at its offset and depth. A refusal, of the values too, keeps
 // the state given.
-pub fn call(raw: EntriesRaw, op: u8, bytes: &[u8], rows: &[u64], specs: &[u64]) -> RawEntry
-    ensures { view_raw_entry result ≡ lent_call entry_limit.most bytes.now rows.now specs.now op raw }
+// Kept (5): 01 hands a state in and back by value, with the same bytes and table at each call. `Call { raw, op, bytes }.make(..)`
+// for `call(raw, op, bytes, ..)` would be made anew for each call, since the state is another one.
+pub fn call(raw: EntriesRaw, op: u8, bytes: &[u8], abbreviations: &Abbreviations<'_>) -> RawEntry
+    ensures { view_raw_entry result ≡ lent_call entry_limit.most bytes.now abbreviations.now.rows abbreviations.now.specs op raw }
 {
+    let specs = abbreviations.specs();
     match CallKind::from(op) {
-        CallKind::Entry => read_entry(raw, bytes, rows, specs),
-        CallKind::Skipped => skip_entry(raw, bytes, rows, specs),
-        CallKind::Listed => list_entry(raw, bytes, rows, specs),
+        CallKind::Entry => read_entry(raw, bytes, abbreviations),
+        CallKind::Skipped => by_code(
+            raw,
+            bytes,
+            abbreviations,
+            |coded: EntriesRaw, found: Abbreviation| -> RawAttributes
+                ensures { view_raw_attributes result ≡ unstored entry_limit.most (raw_skip entry_limit.most coded bytes.entry.now specs.entry.now (found_of found)) }
+            {
+                let Moved { answer, raw } = skip_attributes(coded, bytes, found, specs);
+                let Entry { attrs, .. } = null_at(0, 0);
+                RawAttributes { answer, attrs, raw }
+            },
+        ),
+        CallKind::Listed => by_code(
+            raw,
+            bytes,
+            abbreviations,
+            |coded: EntriesRaw, found: Abbreviation| -> RawAttributes
+                ensures { view_raw_attributes result ≡ raw_attributes entry_limit.most coded bytes.entry.now specs.entry.now (found_of found) }
+            { read_attributes(coded, bytes, found, specs) },
+        ),
     }
 }

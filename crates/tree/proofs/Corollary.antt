@@ -16,7 +16,8 @@ use Rattle.entries.specs.Cursor.{keeps_cursor}
 use Rattle.entries.specs.Entry.{Entry, is_null}
 use Rattle.entries.specs.Flat as flat
 use Rattle.entries.specs.Raw.{source_of}
-use Rattle.entries.specs.Read.{Source, after_entry, entry_at, same_depth}
+use Rattle.attribute.specs.declared.source.Source.{Source}
+use Rattle.entries.specs.Read.{after_entry, entry_at, same_depth}
 use Rattle.entries.proofs.FlatLaws.{Stands, entry_stands, Chain, items_chain}
 use Rattle.tree.specs.Walk.{Item, under, entries_at, children_of, Jumps, Reply, replies}
 use Rattle.tree.specs.Tree.{Tree, next_of, root_of}

@@ -13,7 +13,8 @@ use Rattle.entries.specs.Cursor.{keeps_cursor}
 use Rattle.entries.specs.Entry.{Entry, is_null}
 use Rattle.entries.specs.Flat as flat
 use Rattle.entries.specs.Raw.{source_of}
-use Rattle.entries.specs.Read.{Source, same_depth}
+use Rattle.attribute.specs.declared.source.Source.{Source}
+use Rattle.entries.specs.Read.{same_depth}
 use Rattle.entries.proofs.CursorLaws.{cursor_kept}
 use Rattle.tree.specs.Walk.{Item, children_of, Jumps, Reply, entry, replies, walk_says}
 use Rattle.tree.specs.Tree.{Tree, Answered, next_of, root_of}

@@ -24,7 +24,8 @@ use Rattle.attribute.proofs.LateLaws.{Late, uleb_late, attributes_late}
 use Rattle.entries.specs.Cursor.{keeps_cursor}
 use Rattle.entries.specs.Entry.{Entry}
 use Rattle.entries.specs.Raw.{source_of}
-use Rattle.entries.specs.Read.{Source, known, abbreviation_at, entry_after, entry_at, same_depth}
+use Rattle.attribute.specs.declared.source.Source.{Source}
+use Rattle.entries.specs.Read.{known, abbreviation_at, entry_after, entry_at, same_depth}
 use Rattle.tree.specs.Walk.{Item, Reply, reached, in_range}
 use Rattle.tree.specs.Tree.{Tree, next_of, root_of}
 use Rattle.tree.specs.Demand.{said, tree_replies, tree_walk}

@@ -15,16 +15,16 @@ use Rattle.reader.proofs.Answers.{cond_by}
 use Rattle.unit.specs.Header.{in_bounds, unit_end}
 use Rattle.unit.specs.Range.{part, range_from}
 use Rattle.unit.specs.declared.header.UnitHeader.{UnitHeader}
-use Rattle.entries.specs.Cursor.{new_cursor, keeps_cursor, opened_cursor, or_no_cursor}
+use Rattle.entries.specs.Cursor.{Cursor, new_cursor, keeps_cursor, opened_cursor, or_no_cursor}
 use Rattle.entries.specs.Entry.{Entry}
 use Rattle.entries.specs.Flat as flat
 use Rattle.entries.specs.Open.{cursor_from}
 use Rattle.entries.specs.Raw.{source_of, opened}
-use Rattle.entries.specs.Read.{Source}
+use Rattle.attribute.specs.declared.source.Source.{Source}
 use Rattle.entries.specs.declared.raw.EntriesRaw.{EntriesRaw}
 use Rattle.entries.proofs.RawLaws.{raw_keeps}
 use Rattle.tree.specs.Walk.{Jumps, walk_says}
-use Rattle.tree.specs.Tree.{Tree, OpenedTree, tree_over, root_of}
+use Rattle.tree.specs.Tree.{Tree, new_tree, OpenedTree, tree_over, root_of}
 use Rattle.tree.specs.Demand.{root_reading, walk_items, tree_walk, whole}
 use Rattle.tree.proofs.Agree.{All21}
 use Rattle.tree.proofs.Loop.{given}
@@ -37,9 +37,16 @@ abbrev pub source_from : UnitHeader → ℕ → RunTimeEndian → Source
 source_from h offset e = record { start = offset; encoding = h.encoding; endian = e }
 
 module _ (most : ℕ) (h : UnitHeader) (u : List ℕ) (offset : ℕ) (e : RunTimeEndian) where
-  -- what `entries_tree` promises, and `root_entries_tree` with the header's size for the offset
+  -- what `entries_tree` promises, and `root_entries_tree` with the header's size for the offset (`promised`)
   abbrev pub tree_from : OpenedTree
   tree_from = tree_over (or_no_cursor most e (cursor_from h u most offset e))
+
+  pub promised : new_tree (cursor_from h u most offset e) ≡ and_then tree_from.answer (λ _. got tree_from.tree)
+  promised = by (cursor_from h u most offset e)
+    where
+      by : (r : Answer Cursor) → new_tree r ≡ and_then (tree_over (or_no_cursor most e r)).answer (λ _. got (tree_over (or_no_cursor most e r)).tree)
+      by (got c) = refl
+      by (refused n) = refl
 
   -- a new tree over the part of the unit's bytes that starts at the offset
   pub record NewTree (s : List ℕ) (t : Tree) : Type 0 where

@@ -20,7 +20,8 @@ use Rattle.entries.specs.Cursor.{Cursor, new_cursor, keeps_cursor, Called, go_on
 use Rattle.entries.specs.Entry.{Entry, null_entry, is_null, jump_of}
 use Rattle.entries.specs.Flat as flat
 use Rattle.entries.specs.Raw.{keeps_raw, source_of, taken, raw_entry}
-use Rattle.entries.specs.Read.{Source, abbreviation_at, depth_after, entry_at, entry_after, after_entry, same_depth}
+use Rattle.attribute.specs.declared.source.Source.{Source}
+use Rattle.entries.specs.Read.{abbreviation_at, depth_after, entry_at, entry_after, after_entry, same_depth}
 use Rattle.entries.specs.Steps.{KeptRaw}
 use Rattle.entries.specs.declared.raw.EntriesRaw.{EntriesRaw}
 use Rattle.entries.proofs.EntryLaws.{jump_without}

@@ -32,7 +32,8 @@ use Rattle.entries.specs.Entry.{Entry, null_entry, entry_of, attr_of, sibling_of
 use Rattle.entries.specs.Flat as flat
 use Rattle.entries.specs.Open.{cursor_from}
 use Rattle.entries.specs.Raw.{opened}
-use Rattle.entries.specs.Read.{Source, abbreviation_at, entry_after, entry_at}
+use Rattle.attribute.specs.declared.source.Source.{Source}
+use Rattle.entries.specs.Read.{abbreviation_at, entry_after, entry_at}
 use Rattle.entries.proofs.FlatLaws.{items_step}
 use Rattle.tree.specs.Walk.{Item, Jumps, next_item, passed, next_at, move, walk, walk_says}
 use Rattle.tree.specs.Demand.{closes, root_reading, walk_items, tree_walk, whole}

@@ -4,7 +4,8 @@ use Rattle.std.proofs.Math.Option.{Option, none, some}
 use Rattle.reader.specs.Answer.{Answer, got, refused, and_then}
 use Rattle.entries.specs.Entry.{Entry, is_null, jump_of}
 use Rattle.entries.specs.Flat as flat
-use Rattle.entries.specs.Read.{Source, entry_at, same_depth}
+use Rattle.attribute.specs.declared.source.Source.{Source}
+use Rattle.entries.specs.Read.{entry_at, same_depth}
 use Rattle.tree.specs.Tree.{Tree, Answered, next_of, root_of}
 use Rattle.tree.specs.Walk.{Item, Reply, replies}
 

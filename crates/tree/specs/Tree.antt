@@ -1,7 +1,7 @@
 -- The tree: a cursor, and whether a root was read.
 use Rattle.std.specs.Prelude.{Bool, true, false, cond, ◌&&◌, List, ℕ, ℤ, pos, length}
 use Rattle.std.proofs.Math.IntN.{suc_ℤ}
-use Rattle.reader.specs.Answer.{Answer, got, refused}
+use Rattle.reader.specs.Answer.{Answer, got, refused, and_then}
 use Rattle.entries.specs.Cursor.{Cursor, new_cursor, keeps_cursor, OpenedCursor, Called, settled, advanced, to_depth}
 use Rattle.entries.specs.Entry.{is_null}
 use Rattle.entries.specs.Raw.{Taken, moved_to, raw_entry}
@@ -17,7 +17,11 @@ pub record Tree : Type 0 where
 abbrev pub unrooted : Cursor → Tree
 unrooted c = record { rooted = false; cursor = c }
 
--- what an opening says, and the tree; after a refusal one that every call that reads refuses with 1
+-- an opening: a new tree, or the cursor's refusal
+abbrev pub new_tree : Answer Cursor → Answer Tree
+new_tree r = and_then r (λ c. got (unrooted c))
+
+-- the same with answer and tree side by side, of which the theorems speak (`promised` of proofs/Opened ties the two); after a refusal the tree is one that every call that reads refuses with 1
 pub record OpenedTree : Type 0 where
   pub answer : Answer (Unit {0})
   pub tree : Tree

@@ -6,19 +6,15 @@ use Rattle.std.proofs.Math.IntN.{suc_ℤ}
 use Rattle.entries.specs.Read.{same_depth}
 use Rattle.reader.specs.Views.{view}
 use Rattle.entries.specs.Views.{view_cursor}
-use Rattle.tree.specs.Tree.{Tree, OpenedTree, Answered}
+use Rattle.tree.specs.Tree.{Tree, Answered}
 use Rattle.tree.specs.Walk.{in_range}
 use Rattle.tree.specs.declared.tree.EntriesTree.{EntriesTree}
 use Rattle.tree.specs.declared.tree.Level.{Level}
 use Rattle.tree.specs.declared.tree.Level.TheVariants as level
-use Rattle.tree.specs.declared.tree.OpenedTree as declared_opened
 use Rattle.tree.specs.declared.tree.TreeNext.{TreeNext}
 
 abbrev pub view_tree : EntriesTree → Tree
 view_tree t = record { rooted = t.rooted; cursor = view_cursor t.cursor }
-
-abbrev pub view_opened_tree : declared_opened.OpenedTree → OpenedTree
-view_opened_tree r = record { answer = view r.answer; tree = view_tree r.tree }
 
 abbrev pub view_tree_next : TreeNext → Answered
 view_tree_next r = record { answer = view r.answer; tree = view_tree r.tree }

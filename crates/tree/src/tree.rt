@@ -4,17 +4,18 @@
 ghost use Rattle.std.specs.Prelude.{true, ◌&&◌, ◌≡◌, length};
 ghost use Rattle.reader.specs.Answer.{got};
 ghost use Rattle.reader.specs.Errors.{number_of};
-ghost use Rattle.reader.specs.Views.{view};
+ghost use Rattle.reader.specs.Views.{view, view_by};
 ghost use Rattle.abbrev.specs.Table.{entry_limit};
 ghost use Rattle.unit.specs.Header.{size_of_header};
-ghost use Rattle.entries.specs.Cursor.{keeps_cursor, new_cursor, or_no_cursor};
+ghost use Rattle.entries.specs.Cursor.{keeps_cursor, new_cursor};
 ghost use Rattle.entries.specs.Open.{cursor_from};
 ghost use Rattle.entries.specs.Read.{same_depth};
 ghost use Rattle.entries.specs.Entry.{is_null};
 ghost use Rattle.entries.specs.Views.{view_entry, view_cursor};
-ghost use Rattle.tree.specs.Tree.{unrooted, tree_over, refuses, restarted, in_tree, child_of, level_of, root_of, next_of};
-ghost use Rattle.tree.specs.Views.{view_tree, view_opened_tree, view_tree_next, view_level, level_for};
+ghost use Rattle.tree.specs.Tree.{unrooted, new_tree, no_more, refuses, restarted, in_tree, child_of, level_of, root_of, next_of};
+ghost use Rattle.tree.specs.Views.{view_tree, view_tree_next, view_level, level_for};
 
+use abbrev::abbreviations::Abbreviations;
 use entries::cursor::{CursorNext, EntriesCursor};
 use entries::entry::{Entry, null_at};
 use entries::open::entries_at_offset;
@@ -23,20 +24,16 @@ use reader::endianity::RunTimeEndian;
 use reader::error::Error;
 use unit::header::UnitHeader;
 
+// Kept (1): a tree without a root has a cursor too, which 01 says ("a null with offset and depth 0"), and a caller may make any
+// state. In `enum EntriesTree { New(EntriesCursor), Rooted(EntriesCursor) }` each read of the cursor would be two like arms.
 #[derive(Clone, Copy)]
 pub struct EntriesTree {
     pub rooted: bool,
     pub cursor: EntriesCursor,
 }
 
-// After a refusal the tree is one that every call that reads refuses.
-#[derive(Clone, Copy)]
-pub struct OpenedTree {
-    pub answer: Result<(), Error>,
-    pub tree: EntriesTree,
-}
-
 // Whether an entry was reached, which the tree beside it holds.
+// Kept (1): 01 wants answer and state side by side, and says what the state is after a refusal.
 #[derive(Clone, Copy)]
 pub struct TreeNext {
     pub answer: Result<bool, Error>,
@@ -56,34 +53,25 @@ pub fn entries_tree(
     unit: &[u8],
     offset: usize,
     endian: RunTimeEndian,
-) -> OpenedTree
-    ensures { view_opened_tree result ≡ tree_over (or_no_cursor entry_limit.most endian (cursor_from header unit.now entry_limit.most offset endian)) }
+) -> Result<EntriesTree, Error>
+    ensures { view_by view_tree result ≡ new_tree (cursor_from header unit.now entry_limit.most offset endian) }
 {
-    let opened = entries_at_offset(header, unit, offset, endian);
-    OpenedTree {
-        answer: opened.answer,
-        tree: EntriesTree {
-            rooted: false,
-            cursor: opened.cursor,
-        },
-    }
+    let cursor = entries_at_offset(header, unit, offset, endian)?;
+    Ok(EntriesTree {
+        rooted: false,
+        cursor,
+    })
 }
 
 // gimli's `entries_tree` from the root on.
-pub fn root_entries_tree(header: UnitHeader, unit: &[u8], endian: RunTimeEndian) -> OpenedTree
-    ensures { view_opened_tree result ≡ tree_over (or_no_cursor entry_limit.most endian (cursor_from header unit.now entry_limit.most (size_of_header header) endian)) }
+pub fn root_entries_tree(
+    header: UnitHeader,
+    unit: &[u8],
+    endian: RunTimeEndian,
+) -> Result<EntriesTree, Error>
+    ensures { view_by view_tree result ≡ new_tree (cursor_from header unit.now entry_limit.most (size_of_header header) endian) }
 {
     entries_tree(header, unit, header.root_offset(), endian)
-}
-
-// Refused: the tree as it is given.
-fn refuse(tree: EntriesTree, error: Error) -> TreeNext
-    ensures { view_tree_next result ≡ refuses (number_of error) (view_tree tree) }
-{
-    TreeNext {
-        answer: Err(error),
-        tree,
-    }
 }
 
 // The state before the first entry.
@@ -121,7 +109,7 @@ fn fail_root(raw: EntriesRaw, error: Error) -> TreeNext
             entry: null_at(0, 0),
         },
     };
-    refuse(tree, error)
+    tree.refuse(error)
 }
 
 // The tree after a call on its cursor.
@@ -153,54 +141,68 @@ fn place(level: i64, depth: i64) -> Option<Level>
     None
 }
 
-// One level deeper than what is held.
-#[tactic(auto, unfolding(crate::specs::Tree::child_of))]
-fn child(tree: EntriesTree, bytes: &[u8], rows: &[u64], specs: &[u64]) -> TreeNext
-    requires { keeps_cursor entry_limit.most (length bytes.now) (view_tree tree).cursor ≡ true }
-    ensures { view_tree_next result ≡ child_of entry_limit.most bytes.now rows.now specs.now (view_tree tree) }
-{
-    if tree.cursor.entry.has_children {
-        return within(tree.cursor.next_child(bytes, rows, specs));
-    }
-    TreeNext {
-        answer: Ok(false),
-        tree,
-    }
-}
-
-// A level at or above what is held.
-#[tactic(auto, unfolding(crate::specs::Tree::level_of))]
-fn next_at(tree: EntriesTree, bytes: &[u8], rows: &[u64], specs: &[u64], depth: i64) -> TreeNext
-    requires { keeps_cursor entry_limit.most (length bytes.now) (view_tree tree).cursor ≡ true }
-    ensures { view_tree_next result ≡ level_of entry_limit.most bytes.now rows.now specs.now depth (view_tree tree) }
-{
-    if closes(tree.cursor, depth) {
-        return TreeNext {
-            answer: Ok(false),
-            tree,
-        };
-    }
-    within(tree.cursor.next_at_depth(bytes, rows, specs, depth))
-}
-
-// Whether what is held is the null that closed a level.
-fn closes(cursor: EntriesCursor, depth: i64) -> bool
-    ensures { result ≡ is_null (view_cursor cursor).entry && same_depth (view_cursor cursor).entry.depth depth }
-{
-    cursor.entry.is_null() && cursor.entry.depth == depth
-}
-
 impl EntriesTree {
+    // Refused: the tree as it is given.
+    fn refuse(self, error: Error) -> TreeNext
+        ensures { view_tree_next result ≡ refuses (number_of error) (view_tree self) }
+    {
+        TreeNext {
+            answer: Err(error),
+            tree: self,
+        }
+    }
+
+    // No entry is reached: the tree as it is given.
+    fn stay(self) -> TreeNext
+        ensures { view_tree_next result ≡ no_more (view_tree self) }
+    {
+        TreeNext {
+            answer: Ok(false),
+            tree: self,
+        }
+    }
+
+    // One level deeper than what is held.
+    #[tactic(auto, using(crate::proofs::LevelLaws::child_kept), unfolding(crate::specs::Tree::child_of))]
+    fn child(self, bytes: &[u8], abbreviations: &Abbreviations<'_>) -> TreeNext
+        requires { keeps_cursor entry_limit.most (length bytes.now) (view_tree self).cursor ≡ true }
+        ensures { view_tree_next result ≡ child_of entry_limit.most bytes.now abbreviations.now.rows abbreviations.now.specs (view_tree self) }
+    {
+        if self.cursor.entry.has_children {
+            return within(self.cursor.next_child(bytes, abbreviations));
+        }
+        self.stay()
+    }
+
+    // Whether what is held is the null that closed a level.
+    fn closes(&self, depth: i64) -> bool
+        ensures { result ≡ is_null (view_tree self.now).cursor.entry && same_depth (view_tree self.now).cursor.entry.depth depth }
+    {
+        self.cursor.entry.is_null() && self.cursor.entry.depth == depth
+    }
+
+    // A level at or above what is held.
+    #[tactic(auto, unfolding(crate::specs::Tree::level_of))]
+    fn next_at(self, bytes: &[u8], abbreviations: &Abbreviations<'_>, depth: i64) -> TreeNext
+        requires { keeps_cursor entry_limit.most (length bytes.now) (view_tree self).cursor ≡ true }
+        ensures { view_tree_next result ≡ level_of entry_limit.most bytes.now abbreviations.now.rows abbreviations.now.specs depth (view_tree self) }
+    {
+        if self.closes(depth) {
+            return self.stay();
+        }
+        within(self.cursor.next_at_depth(bytes, abbreviations, depth))
+    }
+
     // gimli's `root`.
     #[tactic(auto, unfolding(crate::specs::Tree::root_of))]
-    pub fn root(self, bytes: &[u8], rows: &[u64], specs: &[u64]) -> TreeNext
-        ensures { view_tree_next result ≡ root_of entry_limit.most bytes.now rows.now specs.now (view_tree self) }
+    pub fn root(self, bytes: &[u8], abbreviations: &Abbreviations<'_>) -> TreeNext
+        ensures { view_tree_next result ≡ root_of entry_limit.most bytes.now abbreviations.now.rows abbreviations.now.specs (view_tree self) }
     {
         if !self.cursor.keeps_sizes(bytes.len()) {
-            return refuse(self, Error::SizeLimit);
+            return self.refuse(Error::SizeLimit);
         }
         let start = restart(self.cursor.input);
-        let read = start.read_entry(bytes, rows, specs);
+        let read = start.read_entry(bytes, abbreviations);
         match read.answer {
             Ok(true) => found_root(read.raw, read.entry),
             Ok(false) => fail_root(start, Error::NoEntryAtGivenOffset),
@@ -210,19 +212,19 @@ impl EntriesTree {
 
     // gimli's `next` by the number of a level: an entry, "no more", or a refusal.
     #[tactic(auto, unfolding(crate::specs::Tree::next_of))]
-    pub fn next(self, bytes: &[u8], rows: &[u64], specs: &[u64], level: i64) -> TreeNext
-        ensures { view_tree_next result ≡ next_of entry_limit.most bytes.now rows.now specs.now level (view_tree self) }
+    pub fn next(self, bytes: &[u8], abbreviations: &Abbreviations<'_>, level: i64) -> TreeNext
+        ensures { view_tree_next result ≡ next_of entry_limit.most bytes.now abbreviations.now.rows abbreviations.now.specs level (view_tree self) }
     {
         if !self.cursor.keeps_sizes(bytes.len()) {
-            return refuse(self, Error::SizeLimit);
+            return self.refuse(Error::SizeLimit);
         }
         if !self.rooted {
-            return refuse(self, Error::InvalidTreeLevel);
+            return self.refuse(Error::InvalidTreeLevel);
         }
         match place(level, self.cursor.entry.depth) {
-            Some(Level::Deeper) => child(self, bytes, rows, specs),
-            Some(Level::AtOrAbove) => next_at(self, bytes, rows, specs, level),
-            None => refuse(self, Error::InvalidTreeLevel),
+            Some(Level::Deeper) => self.child(bytes, abbreviations),
+            Some(Level::AtOrAbove) => self.next_at(bytes, abbreviations, level),
+            None => self.refuse(Error::InvalidTreeLevel),
         }
     }
 }
