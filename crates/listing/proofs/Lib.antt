@@ -1,5 +1,6 @@
 -- Laws that several proofs cite.
 pub mod TextLaws
+pub mod NumeralLaws
 pub mod LinesLaws
 pub mod ListLaws
 pub mod UnitLaws

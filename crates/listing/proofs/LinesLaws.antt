@@ -53,9 +53,9 @@ module _ {a : Lines} where
   pub lines_full : {all : List Placed → List Placed} → is_some a.next ≡ true → Written a a all (Break tt)
   lines_full {all} e = record { lent = refl; same = refl; is = λ rest. adds_full (length a.out.now) (part_of a) (all rest) e }
 
-  module _ {b : Lines} {l : Placed} (name : b.out.ghost_name ≡ a.out.ghost_name) (e : is_some a.next ≡ false) where
-    pub lines_none : length a.out.now - a.end < 72 → b.out.now ≡ a.out.now → part_of b ≡ made a.count (take a.end a.out.now) (Some l.place) → Written a b (λ rest. l ∷ rest) (Break tt)
-    lines_none j o p =
+  module _ {b : Lines} {l : Placed} (e : is_some a.next ≡ false) where
+    pub lines_none : b.out.ghost_name ≡ a.out.ghost_name → length a.out.now - a.end < 72 → b.out.now ≡ a.out.now → part_of b ≡ made a.count (take a.end a.out.now) (Some l.place) → Written a b (λ rest. l ∷ rest) (Break tt)
+    lines_none name j o p =
         record {
           lent = name;
           same = ap length o;
@@ -64,14 +64,14 @@ module _ {a : Lines} where
               ∙ adds_full (length a.out.now) (made a.count (take a.end a.out.now) (Some l.place)) rest refl ∙ sym p;
         }
 
-    pub lines_held : 72 ≤ length a.out.now - a.end → length b.out.now ≡ length a.out.now → Lined a.out.now b.out.now a.end l.line b.end → b.count ≡ a.count + 1 → b.next ≡ a.next → Written a b (λ rest. l ∷ rest) (Continue tt)
-    lines_held j s z c x =
+    pub lines_held : {m : Lines} → 72 ≤ length a.out.now - a.end → Lined a m l.line → b.out.ghost_name ≡ m.out.ghost_name → b.out.now ≡ m.out.now → part_of b ≡ made (m.count + 1) (take m.end m.out.now) m.next → Written a b (λ rest. l ∷ rest) (Continue tt)
+    lines_held j z name o p =
         record {
-          lent = name;
-          same = s;
+          lent = name ∙ z.put.lent;
+          same = ap length o ∙ z.put.same;
           is = λ rest.
               ap (λ (y : Part). adds (length a.out.now) y rest)
-              (add_held (length a.out.now) (part_of a) l e (omega (arith, ends a, a.inside, j)) ∙ rw (z.put.bytes, c, x));
+              (add_held (length a.out.now) (part_of a) l e (omega (arith, ends a, a.inside, j)) ∙ sym (p ∙ rw (z.put.count, z.put.bytes, z.put.next)));
         }
 
 -- ---- one behind another

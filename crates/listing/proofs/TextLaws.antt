@@ -14,6 +14,7 @@ use mir.Facts.{to_z-of_z}
 use Rattle.reader.proofs.Answers.{cond_by}
 use Rattle.listing.specs.Text.{digit, numeral_within, numeral, signed_numeral, Line, unit_line, entry_line, null_line, refused_line, end_line, text, ascii}
 use Rattle.listing.specs.Written.{Put, Lined}
+use Rattle.listing.specs.declared.lines.Lines.{Lines}
 
 -- ---- numerals
 
@@ -54,6 +55,11 @@ low_length base n h l = rw (numeral_low base n h l)
 
 pub high_length : (base n : ℕ) → 2 ≤ base → base ≤ n → length (numeral base n) ≡ length (numeral base (n / base)) + 1
 high_length base n h l = rw (numeral_high base n h l) (length-append (numeral base (n / base)) (digit (n % base) ∷ []))
+
+pub numeral_some : (base n : ℕ) → 2 ≤ base → 1 ≤ length (numeral base n)
+numeral_some base n h =
+    rw (numeral_step base n h)
+    (cond_by (λ (s : List ℕ). 1 ≤ length s) (ltb n base) _ _ (λ t. omega arith) (λ t. omega (arith, length-append (numeral base (n / base)) (digit (n % base) ∷ []))))
 
 -- a number below a power of the base has at most so many digits
 pub numeral_most : (base k n : ℕ) → 2 ≤ base → n < base ^ suc k → length (numeral base n) ≤ suc k
@@ -139,7 +145,7 @@ text_some (refused_line n) = simp length-append (omega arith)
 text_some end_line = omega arith
 
 -- a line written
-pub lined : {a b : List ℕ} {at r : ℕ} (l : Line) → Fitted l → Put a b at r (text l) → Lined a b at l r
+pub lined : {a b : Lines} (l : Line) → Fitted l → Put a b (text l) → Lined a b l
 lined l f p = record { put = p; most = omega (arith, text_most l f, p.ends) }
 
 -- the lines of document 01
@@ -155,15 +161,19 @@ sample_more = refl
 
 -- ---- text stored
 
-module _ {a b c t : List ℕ} {at r q : ℕ} (p : Put a b at r t) where
+module _ {a b c : Lines} {t : List ℕ} (p : Put a b t) where
   -- one text after another
-  pub put_then : {u : List ℕ} → Put b c r q u → Put a c at q (t ++ u)
+  pub put_then : {u : List ℕ} → Put b c u → Put a c (t ++ u)
   put_then {u} s =
       record {
+        lent = s.lent ∙ p.lent;
+        same = s.same ∙ p.same;
         ends = rw (length-append t u) (omega (arith, p.ends, s.ends));
-        bytes = s.bytes ∙ rw p.bytes (append_assoc (take at a) t u);
+        bytes = s.bytes ∙ rw p.bytes (append_assoc (take a.end a.out.now) t u);
+        count = s.count ∙ p.count;
+        next = s.next ∙ p.next;
       }
 
   -- a number and a byte after it
-  pub put_then_field : (base n x : ℕ) → Put b c r q (numeral base n ++ (x ∷ [])) → Put a c at q (t ++ numeral base n ++ (x ∷ []))
+  pub put_then_field : (base n x : ℕ) → Put b c (numeral base n ++ (x ∷ [])) → Put a c (t ++ numeral base n ++ (x ∷ []))
   put_then_field base n x s = rw (append_assoc t (numeral base n) (x ∷ [])) (put_then s)

@@ -29,10 +29,12 @@ use Rattle.entries.specs.Entry.{Entry}
 use Rattle.entries.specs.Flat.{Reading, nothing, before, read_on, read_within, read_from, never}
 use Rattle.entries.specs.Raw.{source_of}
 use Rattle.entries.specs.declared.raw.EntriesRaw.{EntriesRaw}
-use Rattle.entries.specs.Read.{Source, entry_at, after_entry}
+use Rattle.attribute.specs.declared.source.Source.{Source}
+use Rattle.entries.specs.Read.{entry_at, after_entry}
 use Rattle.listing.specs.Listing.{Placed, place_of, put, or_stop, read_lines, item_lines, Shelf, unit_entries, unit_all, units_within, unit_lines, inner_lines}
 use Rattle.listing.specs.Text.{end_line, refused_line}
-use Rattle.listing.specs.Written.{Fit}
+use Rattle.listing.specs.Written.{Fit, Lent}
+use Rattle.listing.specs.declared.list.Listing as declared_list
 use Rattle.listing.specs.declared.place.ListingPlace.{ListingPlace}
 
 -- ---- tables: whichever row holds which declaration, the lines are the same
@@ -147,3 +149,13 @@ module _ (x : Shelf) (a : ListingPlace) (r : Next) (e : view_next r ≡ next_uni
 
   pub entries_refused : (n : Error) → view_next_unit r.unit ≡ refused (number_of n) → inner_lines x a ≡ put a (refused_line (number_of n)) ∷ []
   entries_refused n f = inner_refused x a (told x a.unit r e f)
+
+-- the same sections and words further on
+pub lent_then : {x y z : declared_list.Listing} → Lent x y → Lent y z → Lent x z
+lent_then a b =
+    record {
+      shelf = b.shelf ∙ a.shelf;
+      lent = b.lent ∙ a.lent;
+      lines = b.lines ∙ a.lines;
+      same = record { rows_kept = b.same.rows_kept ∙ a.same.rows_kept; specs_kept = b.same.specs_kept ∙ a.same.specs_kept };
+    }

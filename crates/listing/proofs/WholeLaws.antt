@@ -16,7 +16,7 @@ use Rattle.listing.specs.Piece.{texts, room, fitting}
 use Rattle.listing.specs.Text.{text}
 use Rattle.listing.specs.Written.{Part, part_of, adds, followed, Written, Lent, shelf_of}
 use Rattle.listing.specs.declared.list.Listed.{Listed}
-use Rattle.listing.specs.declared.list.Shelf as code_shelf
+use Rattle.listing.specs.declared.list.Listing as declared_list
 use Rattle.listing.specs.declared.lines.Lines.{Lines}
 use Rattle.listing.specs.declared.place.ListingPlace.{ListingPlace}
 use Rattle.listing.proofs.LinesLaws.{made, filled, adds_are, fitting_leads, fitting_some, texts_many, place_of_first, first_is, first_there}
@@ -30,13 +30,13 @@ added_all {a} {b} {ls} {flow} e f g w = by flow (w.is []) ∙ rw (e, f, g) (adds
     by (Break u) q = sym q
 
 -- all lines, and zeros behind those that fit
-module _ (x : code_shelf.Shelf) (p : ListingPlace) where
+module _ (x : declared_list.Listing) (p : ListingPlace) where
   abbrev all : List Placed
   all = listing_from (shelf_of x) p
 
-  pub listed_whole : {a b : Lines} {y : code_shelf.Shelf} {flow : ControlFlow (Unit {0}) (Unit {0})} {rows specs out : List ℕ} → a.count ≡ 0 → a.end ≡ 0 → a.next ≡ None
-      → Written a b (λ rest. all) flow → Lent x y → Blank y.rows.now y.specs.now rows specs → out ≡ take b.end b.out.now ++ replicate (length b.out.now - b.end) 0
-      → ListedAs x.abbrevs.now x.info.now x.rows.now x.specs.now p a.out.now rows specs out (record { bytes = b.end; lines = b.count; next = b.next })
+  pub listed_whole : {a b : Lines} {y : declared_list.Listing} {flow : ControlFlow (Unit {0}) (Unit {0})} {rows specs out : List ℕ} → a.count ≡ 0 → a.end ≡ 0 → a.next ≡ None
+      → Written a b (λ rest. all) flow → Lent x y → Blank y.lent.now.rows.now y.lent.now.specs.now rows specs → out ≡ take b.end b.out.now ++ replicate (length b.out.now - b.end) 0
+      → ListedAs x.abbrevs.now x.info.now x.lent.now.rows.now x.lent.now.specs.now p a.out.now rows specs out (record { bytes = b.end; lines = b.count; next = b.next })
   listed_whole {a} {b} {y} {flow} {rows} {specs} {out} e f g w t k o =
       let n = length a.out.now in
       let z : n - 0 ≡ n = omega arith in
@@ -55,6 +55,13 @@ module _ (x : code_shelf.Shelf) (p : ListingPlace) where
         rows_are = k.no_rows ∙ ap (λ (s : Shelf). replicate s.rows 0) t.shelf;
         specs_are = k.no_specs ∙ ap (λ (s : Shelf). replicate s.specs 0) t.shelf;
       }
+
+  -- by the numbers of the lines as they stand when they are no longer lent
+  pub listed_behind : {a b : Lines} {y : declared_list.Listing} {flow : ControlFlow (Unit {0}) (Unit {0})} {rows specs out : List ℕ} {count end : ℕ} {next : Option ListingPlace} → a.count ≡ 0 → a.end ≡ 0 → a.next ≡ None
+      → Written a b (λ rest. all) flow → Lent x y → Blank y.lent.now.rows.now y.lent.now.specs.now rows specs → out ≡ take b.end b.out.now ++ replicate (length b.out.now - b.end) 0
+      → end ≡ b.end → count ≡ b.count → next ≡ b.next
+      → ListedAs x.abbrevs.now x.info.now x.lent.now.rows.now x.lent.now.specs.now p a.out.now rows specs out (record { bytes = end; lines = count; next = next })
+  listed_behind e f g w t k o i j l = rw (i, j, l) (listed_whole e f g w t k o)
 
 module _ {abbrevs info rows₀ specs₀ : List ℕ} {a : ListingPlace} {out₀ rows specs out : List ℕ} {r : Listed} (z : ListedAs abbrevs info rows₀ specs₀ a out₀ rows specs out r) where
   pub listed_inside : r.bytes ≤ length out

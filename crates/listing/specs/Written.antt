@@ -1,37 +1,41 @@
 -- What the functions that write lines promise.
-use Rattle.std.specs.Prelude.{cond, List, [], ◌∷◌, ◌++◌, ◌≡◌, ℕ, ◌+◌, ◌≤◌, leb, length, take, get_or, Option, Some, is_some, All}
+use Rattle.std.specs.Prelude.{cond, List, [], ◌∷◌, ◌++◌, ◌≡◌, ℕ, ◌+◌, ◌≤◌, leb, length, take, get_or, Option, Some, None, is_some, Result, Ok, Err, All}
 use Rattle.std.specs.declared.ops.ControlFlow.{ControlFlow}
 use Rattle.std.specs.declared.ops.ControlFlow.TheVariants.{Continue, Break}
 use Rattle.reader.specs.Errors.{number_of}
+use Rattle.reader.specs.declared.error.Error.{Error}
 use Rattle.reader.specs.Sizes.{max_section}
 use Rattle.reader.specs.Twos.{twos}
+use Rattle.abbrev.specs.Lent.{Same}
 use Rattle.unit.specs.Header.{size_of_header, unit_end}
 use Rattle.unit.specs.declared.header.UnitHeader.{UnitHeader}
 use Rattle.listing.specs.Listing.{Placed, put, place_in, head_line, item_text, Shelf}
 use Rattle.listing.specs.Piece.{room}
 use Rattle.listing.specs.Text.{Line, refused_line, end_line, text}
-use Rattle.listing.specs.declared.list.Shelf as code_shelf
+use Rattle.listing.specs.declared.list.Listing as declared_list
 use Rattle.listing.specs.declared.place.ListingPlace.{ListingPlace}
 use Rattle.listing.specs.declared.lines.Lines.{Lines}
-use Rattle.listing.specs.declared.text.Line as code
-use Rattle.listing.specs.declared.text.Line.TheVariants as line
 
 -- ---- text stored
 
--- a buffer has t from `at` up to r, and what it had before `at`
-pub record Put (before after : List ℕ) (at r : ℕ) (t : List ℕ) : Type 0 where
-  pub ends : r ≡ at + length t
-  pub bytes : take r after ≡ take at before ++ t
+-- the same lines in the same buffer, with t behind their text
+pub record Put (a b : Lines) (t : List ℕ) : Type 0 where
+  pub lent : b.out.ghost_name ≡ a.out.ghost_name
+  pub same : length b.out.now ≡ length a.out.now
+  pub ends : b.end ≡ a.end + length t
+  pub bytes : take b.end b.out.now ≡ take a.end a.out.now ++ t
+  pub count : b.count ≡ a.count
+  pub next : b.next ≡ a.next
 
 -- a line written, within a line's room
-pub record Lined (before after : List ℕ) (at : ℕ) (l : Line) (r : ℕ) : Type 0 where
-  pub put : Put before after at r (text l)
-  pub most : r ≤ at + room
+pub record Lined (a b : Lines) (l : Line) : Type 0 where
+  pub put : Put a b (text l)
+  pub most : b.end ≤ a.end + room
 
-abbrev pub view_line : code.Line → Line
-view_line (line.Unit h) = head_line h
-view_line (line.Refused e) = refused_line (number_of e)
-view_line line.End = end_line
+abbrev pub view_line : Result (Option UnitHeader) Error → Line
+view_line (Ok (Some h)) = head_line h
+view_line (Ok None) = end_line
+view_line (Err e) = refused_line (number_of e)
 
 -- ---- line by line
 
@@ -87,11 +91,12 @@ pub record Fit (count : ℕ) (h : UnitHeader) : Type 0 where
   pub there : h.offset + unit_end h ≤ count
   pub header : size_of_header h ≤ unit_end h
 
-abbrev pub shelf_of : code_shelf.Shelf → Shelf
-shelf_of x = record { abbrevs = x.abbrevs.now; info = x.info.now; rows = length x.rows.now; specs = length x.specs.now }
+abbrev pub shelf_of : declared_list.Listing → Shelf
+shelf_of x = record { abbrevs = x.abbrevs.now; info = x.info.now; rows = length x.lent.now.rows.now; specs = length x.lent.now.specs.now }
 
--- the same sections, and as many words in the same slices
-pub record Lent (x y : code_shelf.Shelf) : Type 0 where
+-- the same sections, as many words in the same slices, and the same lines' place
+pub record Lent (x y : declared_list.Listing) : Type 0 where
   pub shelf : shelf_of y ≡ shelf_of x
-  pub rows : y.rows.ghost_name ≡ x.rows.ghost_name
-  pub specs : y.specs.ghost_name ≡ x.specs.ghost_name
+  pub lent : y.lent.ghost_name ≡ x.lent.ghost_name
+  pub lines : y.lines.ghost_name ≡ x.lines.ghost_name
+  pub same : Same x.lent.now y.lent.now

@@ -3,9 +3,10 @@
 ghost use Rattle.std.specs.Prelude.{[], ◌∷◌, ◌++◌, ◌≤◌, length, map};
 
 use super::place::ListingPlace;
-use super::text::{Line, put_item, put_line};
+use reader::error::Error;
 use reader::twos::from_word;
 use std::ops::ControlFlow;
+use unit::header::UnitHeader;
 
 // Each call that adds lines says whether more may follow.
 #[derive(Drop)]
@@ -25,9 +26,13 @@ impl Lines<'_> {
     ghost use Rattle.listing.specs.Listing.{put};
     ghost use Rattle.listing.specs.Written.{view_line, words_line, Items, Written};
 
-    // One more line: it is written, or has no room.
+    // One more line, a unit's, `end` or a refusal: it is written, or has no room.
     #[tactic(auto, using(crate::proofs::TextLaws::text_some))]
-    pub(crate) fn add(&mut self, line: Line, place: ListingPlace) -> ControlFlow<()>
+    pub(crate) fn add(
+        &mut self,
+        line: Result<Option<UnitHeader>, Error>,
+        place: ListingPlace,
+    ) -> ControlFlow<()>
         ensures { Written self.old self.new (λ rest. put place (view_line line) ∷ rest) result }
     {
         if self.next.is_some() {
@@ -37,20 +42,24 @@ impl Lines<'_> {
             self.next = Some(place);
             return ControlFlow::Break(());
         }
-        self.end = put_line(self.out, self.end, line);
+        self.put_line(line);
         self.count += 1;
         ControlFlow::Continue(())
     }
 
     // The last line.
-    pub(crate) fn add_last(&mut self, line: Line, place: ListingPlace) -> ControlFlow<()>
+    pub(crate) fn add_last(
+        &mut self,
+        line: Result<Option<UnitHeader>, Error>,
+        place: ListingPlace,
+    ) -> ControlFlow<()>
         ensures { Written self.old self.new (λ _. put place (view_line line) ∷ []) result }
     {
         let _ = self.add(line, place);
         ControlFlow::Break(())
     }
 
-    // The lines of items of a unit: offset, depth, tag and count of values of each.
+    // The lines of items of a unit, by their words: offset, depth, tag and count of values of each.
     #[tactic(auto, using(crate::proofs::TextLaws::text_some))]
     pub(crate) fn add_items(&mut self, unit: usize, items: &[[u64; 4]]) -> ControlFlow<()>
         requires { Items items.now }
@@ -59,18 +68,17 @@ impl Lines<'_> {
         if self.next.is_some() {
             return ControlFlow::Break(());
         }
-        for &[offset, depth, tag, count] in items {
-            let depth = from_word(depth);
+        for item in items {
             if self.out.len() - self.end < 72 {
-                let offset = offset as usize;
+                let offset = item[0] as usize;
                 self.next = Some(ListingPlace {
                     unit,
                     offset,
-                    depth,
+                    depth: from_word(item[1]),
                 });
                 return ControlFlow::Break(());
             }
-            self.end = put_item(self.out, self.end, offset, depth, tag, count);
+            self.put_item(item);
             self.count += 1;
         }
         ControlFlow::Continue(())

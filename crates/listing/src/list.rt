@@ -3,6 +3,7 @@
 ghost use Rattle.std.specs.Prelude.{◌≡◌, ◌≤◌, length};
 ghost use Rattle.reader.specs.Sizes.{max_section};
 ghost use Rattle.reader.specs.Views.{view};
+ghost use Rattle.abbrev.specs.Lent.{Same, TabledIn};
 ghost use Rattle.abbrev.specs.Table.{entry_limit};
 ghost use Rattle.entries.specs.Steps.{KeptRaw};
 ghost use Rattle.listing.specs.Listed.{ListedAs};
@@ -16,8 +17,9 @@ ghost use Rattle.listing.specs.Written.{Written, Fit, Lent, shelf_of};
 
 use super::lines::Lines;
 use super::place::ListingPlace;
-use super::text::Line;
-use abbrev::rows::wipe;
+use abbrev::abbreviations::Abbreviations;
+use abbrev::lent::LentRows;
+use abbrev::table::DebugAbbrev;
 use entries::flat::pass_entries;
 use entries::raw::EntriesRaw;
 use reader::endianity::RunTimeEndian;
@@ -36,31 +38,33 @@ pub struct Listed {
     pub next: Option<ListingPlace>,
 }
 
-// Two sections, and the words lent for a table.
+// Two sections, the words lent for a table, and the lines so far. Each reference has a lifetime of its own, so that
+// `list` names none.
 #[derive(Drop)]
-struct Shelf<'a> {
+struct Listing<'a, 'b, 'c, 'd, 'e, 'f> {
     abbrevs: &'a [u8],
-    info: &'a [u8],
-    rows: &'a mut [u64],
-    specs: &'a mut [u64],
+    info: &'b [u8],
+    lent: &'c mut LentRows<'d>,
+    lines: &'e mut Lines<'f>,
 }
 
 // A line for each item that is left, of up to 256 passed in a call.
+// Kept (6): no heap; the words are lent to `pass_entries` again and again, and 256 items in a call were the
+// fastest of 64, 128 and 256 (docs/SPEED.md).
 fn list_items(
     raw: EntriesRaw,
     unit: usize,
     bytes: &[u8],
-    rows: &[u64],
-    specs: &[u64],
+    abbreviations: &Abbreviations<'_>,
     lines: &mut Lines<'_>,
 ) -> ControlFlow<()>
     requires { KeptRaw (length bytes.now) raw }
-    ensures { Written lines.old lines.new (item_lines entry_limit.most unit raw bytes.now rows.now specs.now) result }
+    ensures { Written lines.old lines.new (item_lines entry_limit.most unit raw bytes.now abbreviations.now.rows abbreviations.now.specs) result }
 {
     let mut words = [0u64; 1024];
     let mut here = raw;
     while here.position < bytes.len() {
-        let passed = pass_entries(here, bytes, rows, specs, &mut words);
+        let passed = pass_entries(here, bytes, abbreviations, &mut words);
         let (items, _) = words.as_chunks::<4>();
         lines.add_items(unit, &items[..passed.count])?;
         let after = passed.raw;
@@ -72,7 +76,7 @@ fn list_items(
                     offset: after.start + after.position,
                     depth: after.depth,
                 };
-                return lines.add_last(Line::Refused(error), place);
+                return lines.add_last(Err(error), place);
             }
         }
     }
@@ -80,6 +84,8 @@ fn list_items(
 }
 
 // The state at a place in a unit.
+// Kept (5): a unit's header and a place in it stand for one thing here and in two methods; a struct of both would be
+// made in two of them and taken apart in all.
 #[tactic(auto, unfolding(crate::specs::Listing::state_at))]
 fn state_at(header: UnitHeader, bytes: &[u8], place: ListingPlace) -> Result<EntriesRaw, Error>
     requires { length bytes.now ≤ max_section }
@@ -109,6 +115,7 @@ fn entries_in(header: UnitHeader, info: &[u8]) -> Result<&[u8], Error>
 }
 
 // The unit of .debug_info at an offset, and the list behind it.
+// Kept (5): the other two functions are the C interface.
 fn unit_at(info: &[u8], offset: usize) -> Next
     ensures { view_next result ≡ next_unit debug_info info.now offset Little }
 {
@@ -119,7 +126,18 @@ fn unit_at(info: &[u8], offset: usize) -> Next
     units.next(info, RunTimeEndian::Little)
 }
 
-impl Shelf<'_> {
+// A unit's table. That the slices are as long as they were, the contract of `header.abbreviations` doesn't say.
+fn read_table(header: UnitHeader, abbrevs: &[u8], lent: &mut LentRows<'_>) -> Result<usize, Error>
+    ensures tabled { TabledIn abbrevs.now header.debug_abbrev_offset lent.old lent.new result }
+    ensures rows_long { length lent.new.rows.now ≡ length lent.old.rows.now }
+    ensures specs_long { length lent.new.specs.now ≡ length lent.old.specs.now }
+{
+    DebugAbbrev::abbreviations(abbrevs, header.debug_abbrev_offset, lent.rows, lent.specs)
+}
+
+// Kept (5): that the references stay the same, each method has to promise: an invariant speaks of one value, not of the
+// value before and after.
+impl Listing<'_, '_, '_, '_, '_, '_> {
     // A unit's entries, out of their bytes.
     fn list_part(
         &mut self,
@@ -127,100 +145,90 @@ impl Shelf<'_> {
         place: ListingPlace,
         raw: EntriesRaw,
         bytes: &[u8],
-        lines: &mut Lines<'_>,
     ) -> ControlFlow<()>
         requires { KeptRaw (length bytes.now) raw }
         ensures lent { Lent self.old self.new }
-        ensures written { Written lines.old lines.new (part_lines (shelf_of self.old) header bytes.now place raw) result }
+        ensures written { Written self.old.lines.now self.new.lines.now (part_lines (shelf_of self.old) header bytes.now place raw) result }
     {
         if bytes.is_empty() {
             return ControlFlow::Continue(());
         }
-        // with the fields in the call there is no automatic proof
-        let abbrevs = self.abbrevs;
-        let rows = &mut *self.rows;
-        let specs = &mut *self.specs;
-        match header.abbreviations(abbrevs, rows, specs) {
-            Ok(_) => list_items(raw, place.unit, bytes, rows, specs, lines),
-            Err(error) => lines.add_last(Line::Refused(error), place),
+        match read_table(header, self.abbrevs, self.lent) {
+            Ok(_) => list_items(raw, place.unit, bytes, &self.lent.table(), self.lines),
+            Err(error) => self.lines.add_last(Err(error), place),
         }
     }
 
     // A unit's entries from a place on.
-    fn list_entries(
-        &mut self,
-        header: UnitHeader,
-        place: ListingPlace,
-        lines: &mut Lines<'_>,
-    ) -> ControlFlow<()>
+    fn list_entries(&mut self, header: UnitHeader, place: ListingPlace) -> ControlFlow<()>
         requires { Fit (length self.old.info.now) header }
         ensures lent { Lent self.old self.new }
-        ensures written { Written lines.old lines.new (unit_entries (shelf_of self.old) header place) result }
+        ensures written { Written self.old.lines.now self.new.lines.now (unit_entries (shelf_of self.old) header place) result }
     {
         match entries_in(header, self.info) {
             Ok(bytes) => match state_at(header, bytes, place) {
-                Ok(raw) => self.list_part(header, place, raw, bytes, lines),
-                Err(error) => lines.add_last(Line::Refused(error), place),
+                Ok(raw) => self.list_part(header, place, raw, bytes),
+                Err(error) => self.lines.add_last(Err(error), place),
             },
-            Err(error) => lines.add_last(Line::Refused(error), place),
+            Err(error) => self.lines.add_last(Err(error), place),
         }
     }
 
     // A unit: its line, then its entries.
-    fn list_unit(&mut self, header: UnitHeader, at: usize, lines: &mut Lines<'_>) -> ControlFlow<()>
+    fn list_unit(&mut self, header: UnitHeader, at: usize) -> ControlFlow<()>
         requires { Fit (length self.old.info.now) header }
         ensures lent { Lent self.old self.new }
-        ensures written { Written lines.old lines.new (unit_all (shelf_of self.old) at header) result }
+        ensures written { Written self.old.lines.now self.new.lines.now (unit_all (shelf_of self.old) at header) result }
     {
-        lines.add(Line::Unit(header), ListingPlace::at_root(at, 0))?;
+        self.lines
+            .add(Ok(Some(header)), ListingPlace::at_root(at, 0))?;
         let root = ListingPlace::at_root(at, header.root_offset());
-        self.list_entries(header, root, lines)
+        self.list_entries(header, root)
     }
 
     // All units from an offset of their section on.
-    fn list_units(&mut self, at: usize, lines: &mut Lines<'_>) -> ControlFlow<()>
+    fn list_units(&mut self, at: usize) -> ControlFlow<()>
         ensures lent { Lent self.old self.new }
-        ensures written { Written lines.old lines.new (λ _. unit_lines (shelf_of self.old) at) result }
+        ensures written { Written self.old.lines.now self.new.lines.now (λ _. unit_lines (shelf_of self.old) at) result }
     {
         let mut offset = at;
         loop {
             let here = ListingPlace::at_root(offset, 0);
             let next = unit_at(self.info, offset);
-            match next.unit {
-                Ok(Some(header)) => self.list_unit(header, here.unit, lines)?,
-                Ok(None) => return lines.add_last(Line::End, here),
-                Err(error) => return lines.add_last(Line::Refused(error), here),
-            }
+            let Ok(Some(header)) = next.unit else {
+                return self.lines.add_last(next.unit, here);
+            };
+            self.list_unit(header, here.unit)?;
             offset = next.units.offset;
         }
     }
 
     // From the middle of a unit on.
-    fn list_inner(&mut self, place: ListingPlace, lines: &mut Lines<'_>) -> ControlFlow<()>
+    fn list_inner(&mut self, place: ListingPlace) -> ControlFlow<()>
         ensures lent { Lent self.old self.new }
-        ensures written { Written lines.old lines.new (λ _. inner_lines (shelf_of self.old) place) result }
+        ensures written { Written self.old.lines.now self.new.lines.now (λ _. inner_lines (shelf_of self.old) place) result }
     {
         let next = unit_at(self.info, place.unit);
         match next.unit {
             Ok(Some(header)) => {
-                self.list_entries(header, place, lines)?;
-                self.list_units(next.units.offset, lines)
+                self.list_entries(header, place)?;
+                self.list_units(next.units.offset)
             }
-            Ok(None) => lines.add_last(Line::Refused(Error::SizeLimit), place),
-            Err(error) => lines.add_last(Line::Refused(error), place),
+            Ok(None) => self.lines.add_last(Err(Error::SizeLimit), place),
+            Err(error) => self.lines.add_last(Err(error), place),
         }
     }
 
     // From a place on.
     #[tactic(auto, unfolding(crate::specs::Listing::listing_from))]
-    fn list_from(&mut self, place: ListingPlace, lines: &mut Lines<'_>) -> ControlFlow<()>
+    fn list_from(&mut self, place: ListingPlace) -> ControlFlow<()>
         ensures lent { Lent self.old self.new }
-        ensures written { Written lines.old lines.new (λ _. listing_from (shelf_of self.old) place) result }
+        ensures written { Written self.old.lines.now self.new.lines.now (λ _. listing_from (shelf_of self.old) place) result }
     {
         if place.offset == 0 {
-            self.list_units(place.unit, lines)
+            self.list_units(place.unit)
         } else {
-            self.list_inner(place, lines)
+            self.list_inner(place)
         }
     }
 }
@@ -231,28 +239,27 @@ impl Shelf<'_> {
 pub fn list(
     abbrevs: &[u8],
     info: &[u8],
-    rows: &mut [u64],
-    specs: &mut [u64],
+    lent: &mut LentRows<'_>,
     place: ListingPlace,
     out: &mut [u8],
 ) -> Listed
-    ensures { ListedAs abbrevs.now info.now rows.old specs.old place out.old rows.new specs.new out.new result }
+    ensures listed { ListedAs abbrevs.now info.now lent.old.rows.now lent.old.specs.now place out.old lent.new.rows.now lent.new.specs.now out.new result }
+    ensures same { Same lent.old lent.new }
 {
-    let mut shelf = Shelf {
-        abbrevs,
-        info,
-        rows,
-        specs,
-    };
     let mut lines = Lines {
         out,
         count: 0,
         end: 0,
         next: None,
     };
-    let _ = shelf.list_from(place, &mut lines);
-    let Shelf { rows, specs, .. } = shelf;
-    wipe(rows, specs);
+    let mut listing = Listing {
+        abbrevs,
+        info,
+        lent,
+        lines: &mut lines,
+    };
+    let _ = listing.list_from(place);
+    lent.wipe();
     let Lines {
         out,
         count,

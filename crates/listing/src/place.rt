@@ -14,6 +14,7 @@ pub struct ListingPlace {
 
 impl ListingPlace {
     // At depth 0.
+    // Kept (5): the other two functions are the C interface, where a place is three numbers.
     pub(crate) fn at_root(unit: usize, offset: usize) -> ListingPlace
         ensures { result ≡ place_in unit offset (pos 0) }
     {

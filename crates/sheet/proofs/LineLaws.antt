@@ -6,13 +6,15 @@ use native.Mathlib.Omega.{arith}
 use borrow.Author.Tests.{ne_eqb}
 use lib.Dec.{eqb}
 use lib.IntN.{ℤ}
-use lib.ListN.{length, replicate, length-append, length-replicate}
+use lib.ListN.{length, take, drop, set, replicate, length-append, length-take, length-drop, length-set, length-replicate, take-append-drop, drop_of_length-le}
+use borrow.Rule.Slice.PartMut.{put_mid}
+use Rattle.std.proofs.lemmas.Slice.{take-put_mid, drop-put_mid}
 use Rattle.reader.proofs.Answers.{cond_by}
 use Rattle.listing.specs.Text.{ascii, numeral, signed_numeral}
 use Rattle.listing.proofs.TextLaws.{numeral_most}
 use Rattle.sheet.specs.Sheet.{padded, right, tag_text, sheet_line, blank_line, in_bytes, page_size}
 use Rattle.sheet.specs.Steps.{splice, Fair}
-use Rattle.sheet.proofs.ColumnLaws.{padded_length, replicate_more, splice_then, signed_short}
+use Rattle.sheet.proofs.ColumnLaws.{padded_length, replicate_more, splice_length, splice_then, set_is, signed_short}
 
 -- a text stored behind one that is stored
 pub stored_then : (at : ℕ) (l : List ℕ) {x y : List ℕ} (t u : List ℕ) (n : ℕ) → x ≡ splice at t l → n ≡ at + length t → n + length u ≤ length l → y ≡ splice n u x → y ≡ splice at (t ++ u) l
@@ -94,6 +96,75 @@ module _ {offset : ℕ} {depth : ℤ} {tag count : ℕ} (f : Fair offset depth t
       let fg = stored_then at l t₅ (ascii " ") (at + 29) fe (omega (arith, l₅)) (omega arith) eg in
       let fh = stored_then at l t₆ (right 2 (numeral 10 count)) (at + 30) fg (omega (arith, l₆)) (omega (arith, count_length)) eh in
       stored_then at l t₇ (ascii "\n") (at + 32) fh (omega (arith, line_length)) (omega arith) ei
+
+-- ---- the columns of a line, as they are stored
+
+pub part_length : (n w : ℕ) (x : List ℕ) → n + w ≤ length x → length (take w (drop n x)) ≡ w
+part_length n w x h = omega (arith, length-take w (drop n x), length-drop n x)
+
+pub mid_is : (n w : ℕ) (x t : List ℕ) → length t ≡ w → n + w ≤ length x → put_mid n w x t ≡ splice n t x
+mid_is n w x t e h =
+    let y = put_mid n w x t in
+    let f : n + w ≡ n + length t = omega arith in
+    sym (take-append-drop (n + w) y) ∙ rw (take-put_mid n w x t (n + w) f (omega arith), drop-put_mid n w x t (n + w) (omega arith) (omega arith) e, f) refl
+
+pub mid_length : (n w : ℕ) (x t : List ℕ) → length t ≡ w → n + w ≤ length x → length (put_mid n w x t) ≡ length x
+mid_length n w x t e h = ap length (mid_is n w x t e h) ∙ splice_length n x t (omega arith)
+
+-- as many columns as there are
+pub column_is : (n w : ℕ) (x t : List ℕ) → n + w ≤ length x → padded 32 (length (take w (drop n x))) t ≡ padded 32 w t
+column_is n w x t h = ap (λ (m : ℕ). padded 32 m t) (part_length n w x h)
+
+-- the first columns stored in a line, and those up to the tag
+abbrev pub line_first : (l c₁ : List ℕ) → List ℕ
+line_first l c₁ = set (c₁ ++ drop 10 l) 10 32
+
+abbrev pub line_third : (l c₁ c₂ c₃ : List ℕ) → List ℕ
+line_third l c₁ c₂ c₃ = set (put_mid 23 6 (set (put_mid 11 11 (line_first l c₁) c₂) 22 32) c₃) 29 32
+
+pub first_length : (l c₁ : List ℕ) → length l ≡ 33 → length c₁ ≡ 10 → length (line_first l c₁) ≡ 33
+first_length l c₁ room n₁ = length-set (c₁ ++ drop 10 l) 10 32 ∙ length-append c₁ (drop 10 l) ∙ omega (arith, n₁, length-drop 10 l, room)
+
+pub third_length : (l c₁ c₂ c₃ : List ℕ) → length l ≡ 33 → length c₁ ≡ 10 → length c₂ ≡ 11 → length c₃ ≡ 6 → length (line_third l c₁ c₂ c₃) ≡ 33
+third_length l c₁ c₂ c₃ room n₁ n₂ n₃ =
+    let b = line_first l c₁ in
+    let c = put_mid 11 11 b c₂ in
+    let d = set c 22 32 in
+    let lb = first_length l c₁ room n₁ in
+    let ld : length d ≡ 33 = length-set c 22 32 ∙ mid_length 11 11 b c₂ n₂ (omega (arith, lb)) ∙ lb in
+    length-set (put_mid 23 6 d c₃) 29 32 ∙ mid_length 23 6 d c₃ n₃ (omega (arith, ld)) ∙ ld
+
+module _ {offset : ℕ} {depth : ℤ} {tag count : ℕ} (f : Fair offset depth tag count) (l : List ℕ) (room : length l ≡ 33) where
+  pub line_put : {c₁ c₂ c₃ c₄ : List ℕ} → c₁ ≡ right 10 (numeral 10 offset) → c₂ ≡ right 11 (signed_numeral depth) → c₃ ≡ tag_text tag → c₄ ≡ right 2 (numeral 10 count)
+      → set (put_mid 30 2 (set (put_mid 23 6 (set (put_mid 11 11 (set (c₁ ++ drop 10 l) 10 32) c₂) 22 32) c₃) 29 32) c₄) 32 10 ≡ sheet_line offset depth tag count ++ ascii "\n"
+  line_put {c₁} {c₂} {c₃} {c₄} e₁ e₂ e₃ e₄ =
+      let n₁ : length c₁ ≡ 10 = ap length e₁ ∙ offset_length f in
+      let n₂ : length c₂ ≡ 11 = ap length e₂ ∙ depth_length f in
+      let n₃ : length c₃ ≡ 6 = ap length e₃ ∙ tag_length tag f.tag_small in
+      let n₄ : length c₄ ≡ 2 = ap length e₄ ∙ count_length f in
+      let a = c₁ ++ drop 10 l in
+      let b = set a 10 32 in
+      let c = put_mid 11 11 b c₂ in
+      let d = set c 22 32 in
+      let e = put_mid 23 6 d c₃ in
+      let g = set e 29 32 in
+      let h = put_mid 30 2 g c₄ in
+      let la : length a ≡ 33 = length-append c₁ (drop 10 l) ∙ omega (arith, n₁, length-drop 10 l, room) in
+      let lb : length b ≡ 33 = length-set a 10 32 ∙ la in
+      let lc : length c ≡ 33 = mid_length 11 11 b c₂ n₂ (omega (arith, lb)) ∙ lb in
+      let ld : length d ≡ 33 = length-set c 22 32 ∙ lc in
+      let le : length e ≡ 33 = mid_length 23 6 d c₃ n₃ (omega (arith, ld)) ∙ ld in
+      let lg : length g ≡ 33 = length-set e 29 32 ∙ le in
+      let lh : length h ≡ 33 = mid_length 30 2 g c₄ n₄ (omega (arith, lg)) ∙ lg in
+      let z : 10 ≡ 0 + length c₁ = omega arith in
+      let first : a ≡ splice 0 (right 10 (numeral 10 offset)) l = ap (λ (n : ℕ). c₁ ++ drop n l) z ∙ ap (λ (x : List ℕ). splice 0 x l) e₁ in
+      let w = line_length f in
+      line_stored f 0 l (omega (arith, room)) first (set_is a 10 32 (omega (arith, la))) (mid_is 11 11 b c₂ n₂ (omega (arith, lb)) ∙ ap (λ (x : List ℕ). splice 11 x b) e₂) (set_is c 22 32 (omega (arith, lc)))
+      (mid_is 23 6 d c₃ n₃ (omega (arith, ld)) ∙ ap (λ (x : List ℕ). splice 23 x d) e₃) (set_is e 29 32 (omega (arith, le))) (mid_is 30 2 g c₄ n₄ (omega (arith, lg)) ∙ ap (λ (x : List ℕ). splice 30 x g) e₄) (set_is h 32 10 (omega (arith, lh)))
+      ∙ whole (sheet_line offset depth tag count ++ ascii "\n") (length-append (sheet_line offset depth tag count) (ascii "\n") ∙ omega (arith, w, room))
+    where
+      whole : (t : List ℕ) → length t ≡ length l → splice 0 t l ≡ t
+      whole t e = ap (λ (x : List ℕ). t ++ x) (drop_of_length-le l (omega arith)) ∙ append-nil t
 
 -- ---- lines one after another
 

@@ -365,6 +365,32 @@ pub shown_long : (n : ℕ) (r : Answer (List Item)) (p : List ℕ) → page_size
 unfolding shown
 shown_long n r p h = rw (le-ltb (length p) page_size h)
 
+-- a blank page at the front of what is lent
+pub blank_shown : (n k : ℕ) (p p₁ q : List ℕ) → page_size ≤ length p → length p₁ ≡ 1980 → q ≡ splice (0 * 33) (in_bytes (replicate (60 - 0) blank_line)) p₁
+    → record { answer = refused k; page = q ++ drop page_size p } ≡ shown n (refused k) p
+blank_shown n k p p₁ q r e h =
+    let z : drop page_size p₁ ≡ [] = drop_all page_size p₁ (omega (arith, e)) in
+    let b = page_blank n k p₁ p₁ q refl h ∙ ap (λ (x : List ℕ). in_bytes (page_of n (refused k)) ++ x) z ∙ append-nil (in_bytes (page_of n (refused k))) in
+    ap (λ (x : List ℕ). record { answer = refused k; page = x ++ drop page_size p }) b ∙ sym (shown_long n (refused k) p r)
+
+-- what stands of a reading's page at the front of what is lent
+pub page_front : (n : ℕ) (r : Reading) (p p₁ : List ℕ) (a : Answer (Unit {0})) (q : List ℕ) → length p₁ ≡ 1980 → record { answer = a; page = q } ≡ page_from n r p₁
+    → record { answer = a; page = q ++ drop page_size p } ≡ page_from n r p
+page_front n r p p₁ a q e h = go r.stop h
+  where
+    z : drop page_size p₁ ≡ []
+    z = drop_all page_size p₁ (omega (arith, e))
+
+    full : (b : Answer (Unit {0})) (t : List ℕ) → ◌≡◌ {A = Shown} (record { answer = a; page = q }) (record { answer = b; page = t ++ drop page_size p₁ }) → ◌≡◌ {A = Shown} (record { answer = a; page = q ++ drop page_size p }) (record { answer = b; page = t ++ drop page_size p })
+    full b t f =
+        let g : q ≡ t = ap (λ (x : Shown). x.page) f ∙ ap (λ (x : List ℕ). t ++ x) z ∙ append-nil t in
+        let i : a ≡ b = ap (λ (x : Shown). x.answer) f in
+        ap (λ (x : Answer (Unit {0})). record { answer = x; page = q ++ drop page_size p }) i ∙ ap (λ (x : List ℕ). record { answer = b; page = x ++ drop page_size p }) g
+
+    go : (o : Option Stop) → ◌≡◌ {A = Shown} (record { answer = a; page = q }) (page_from n (record { items = r.items; stop = o }) p₁) → ◌≡◌ {A = Shown} (record { answer = a; page = q ++ drop page_size p }) (page_from n (record { items = r.items; stop = o }) p)
+    go none f = full (got tt) (in_bytes (page_of n (got r.items))) f
+    go (some x) f = full (refused x.number) (in_bytes (page_of n (refused x.number))) f
+
 -- a refusal is shown alike on every page
 pub shown_refused : (m n k : ℕ) (p : List ℕ) → shown m (refused k) p ≡ shown n (refused k) p
 unfolding shown page_of

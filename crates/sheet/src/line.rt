@@ -1,70 +1,69 @@
 // The line of an item, and of none.
 
-ghost use Rattle.std.specs.Prelude.{◌≡◌, ◌++◌, ◌+◌, ◌-◌, ◌*◌, ◌^◌, ◌≤◌, ◌<◌, length, replicate};
+ghost use Rattle.std.specs.Prelude.{◌≡◌, ◌++◌, ◌-◌, ◌*◌, ◌^◌, ◌≤◌, ◌<◌, length, replicate};
 ghost use Rattle.listing.specs.Text.{ascii};
-ghost use Rattle.sheet.specs.Sheet.{tag_text, sheet_line, blank_line, in_bytes, page_size};
-ghost use Rattle.sheet.specs.Steps.{splice, Fair, placed};
+ghost use Rattle.sheet.specs.Sheet.{tag_text, blank_line, in_bytes};
+ghost use Rattle.sheet.specs.Steps.{splice, FairWords, placed, words_line};
 
-use super::field::{put_field, put_signed, put_text};
+use super::field::put_right;
+use super::page::PAGE_SIZE;
+use listing::numeral::Numeral;
+use reader::twos::from_word;
 
-fn put_tag(out: &mut [u8], at: usize, tag: u64)
-    requires { (tag < 16 ^ 4) × (at + 6 ≤ length out.old) }
-    ensures { out.new ≡ splice at (tag_text tag) out.old }
+fn put_tag(columns: &mut [u8], tag: u64)
+    requires { (tag < 16 ^ 4) × (length columns.old ≡ 6) }
+    ensures { columns.new ≡ tag_text tag }
 {
     if tag == 0 {
-        put_text(out, at, b"null  ");
+        columns.copy_from_slice(b"null  ");
         return;
     }
-    put_text(out, at, b"0x");
-    put_field(out, at + 2, 4, tag, 16, b'0');
+    columns[..2].copy_from_slice(b"0x");
+    put_right(&mut columns[2..], b'0', Numeral::hexadecimal(tag).text());
 }
 
 // The columns of an item and a line feed. Out of line, since most items of a unit have no line on a page.
 #[inline(never)]
-fn put_line(out: &mut [u8], at: usize, offset: u64, depth: i64, tag: u64, count: u64)
-    requires room { at + 33 ≤ length out.old }
-    requires fair { Fair offset depth tag count }
-    ensures { out.new ≡ splice at (sheet_line offset depth tag count ++ ascii "\n") out.old }
+fn put_line(line: &mut [u8], item: &[u64; 4])
+    requires room { length line.old ≡ 33 }
+    requires fair { FairWords item.now }
+    ensures { line.new ≡ words_line item.now ++ ascii "\n" }
 {
-    put_field(out, at, 10, offset, 10, b' ');
-    put_text(out, at + 10, b" ");
-    put_signed(out, at + 11, depth);
-    put_text(out, at + 22, b" ");
-    put_tag(out, at + 23, tag);
-    put_text(out, at + 29, b" ");
-    put_field(out, at + 30, 2, count, 10, b' ');
-    put_text(out, at + 32, b"\n");
+    let &[offset, depth, tag, count] = item;
+    put_right(&mut line[..10], b' ', Numeral::decimal(offset).text());
+    line[10] = b' ';
+    put_right(
+        &mut line[11..22],
+        b' ',
+        Numeral::signed(from_word(depth)).text(),
+    );
+    line[22] = b' ';
+    put_tag(&mut line[23..29], tag);
+    line[29] = b' ';
+    put_right(&mut line[30..32], b' ', Numeral::decimal(count).text());
+    line[32] = b'\n';
 }
 
 // The line of the `k`-th item, if it has one on a page that begins with the `first`-th.
-pub(crate) fn place_line(
-    page: &mut [u8],
-    first: usize,
-    k: usize,
-    offset: u64,
-    depth: i64,
-    tag: u64,
-    count: u64,
-)
-    requires room { page_size ≤ length page.old }
-    requires fair { Fair offset depth tag count }
-    ensures { page.new ≡ placed first k (sheet_line offset depth tag count) page.old }
+pub(crate) fn place_line(page: &mut [u8; PAGE_SIZE], first: usize, k: usize, item: &[u64; 4])
+    requires { FairWords item.now }
+    ensures { page.new ≡ placed first k (words_line item.now) page.old }
 {
     if k < first {
         return;
     }
     let line = k - first;
     if line < 60 {
-        put_line(page, line * 33, offset, depth, tag, count);
+        put_line(&mut page[line * 33..line * 33 + 33], item);
     }
 }
 
 // Unused lines from a line on.
-pub(crate) fn put_blank(page: &mut [u8], line: usize)
-    requires { (line ≤ 60) × (page_size ≤ length page.old) }
+pub(crate) fn put_blank(page: &mut [u8; PAGE_SIZE], line: usize)
+    requires { line ≤ 60 }
     ensures { page.new ≡ splice (line * 33) (in_bytes (replicate (60 - line) blank_line)) page.old }
 {
     for i in line..60 {
-        put_text(page, i * 33, b"                                \n");
+        page[i * 33..i * 33 + 33].copy_from_slice(b"                                \n");
     }
 }

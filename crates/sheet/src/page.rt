@@ -6,30 +6,29 @@ ghost use Rattle.reader.specs.Errors.{number_of};
 ghost use Rattle.reader.specs.Views.{view};
 ghost use Rattle.abbrev.specs.Table.{entry_limit};
 ghost use Rattle.entries.specs.Flat.{reading_from};
-ghost use Rattle.sheet.specs.Sheet.{page_size, shown, sheet_reading};
+ghost use Rattle.sheet.specs.Sheet.{shown, sheet_reading};
 ghost use Rattle.sheet.specs.Steps.{placed_words, FairWords, first_on, lines_of, Opened, page_from};
 
 use super::line::{place_line, put_blank};
+use abbrev::abbreviations::Abbreviations;
 use entries::flat::pass_entries;
 use entries::raw::EntriesRaw;
 use reader::common::MAX_SECTION;
 use reader::endianity::RunTimeEndian;
 use reader::error::Error;
-use reader::twos::from_word;
 use unit::header::UnitHeader;
 
 // The bytes of a page.
 pub const PAGE_SIZE: usize = 1980;
 
 // The lines of items, offset, depth, tag and count of values of each, of which the first is the `k`-th.
-fn place_lines(page: &mut [u8], first: usize, k: usize, items: &[[u64; 4]])
-    requires room { page_size ≤ length page.old }
+fn place_lines(page: &mut [u8; PAGE_SIZE], first: usize, k: usize, items: &[[u64; 4]])
     requires fair { All FairWords items.now }
     requires few { k + length items.now < 2 ^ 64 }
     ensures { page.new ≡ placed_words first k items.now page.old }
 {
-    for (i, &[offset, depth, tag, count]) in items.iter().enumerate() {
-        place_line(page, first, k + i, offset, from_word(depth), tag, count);
+    for (i, item) in items.iter().enumerate() {
+        place_line(page, first, k + i, item);
     }
 }
 
@@ -37,9 +36,9 @@ fn place_lines(page: &mut [u8], first: usize, k: usize, items: &[[u64; 4]])
 pub fn refuse_page(page: &mut [u8], error: Error) -> Result<(), Error>
     ensures { record { answer = view result; page = page.new } ≡ shown 0 (refused (number_of error)) page.old }
 {
-    if page.len() < PAGE_SIZE {
+    let Some(page) = page.first_chunk_mut::<PAGE_SIZE>() else {
         return Err(Error::PageTooShort);
-    }
+    };
     put_blank(page, 0);
     Err(error)
 }
@@ -60,24 +59,23 @@ fn lines_of(first: usize, seen: usize) -> usize
 }
 
 // All items are read, in passes of up to 256, since a refusal behind the page blanks it too.
+// Kept (6): no heap; the words are lent to `pass_entries` again and again.
 fn read_page(
     raw: EntriesRaw,
     bytes: &[u8],
-    rows: &[u64],
-    specs: &[u64],
+    abbreviations: &Abbreviations<'_>,
     n: u64,
-    page: &mut [u8],
+    page: &mut [u8; PAGE_SIZE],
 ) -> Result<(), Error>
-    requires opened { Opened (length bytes.now) raw }
-    requires room { page_size ≤ length page.old }
-    ensures { record { answer = view result; page = page.new } ≡ page_from n (reading_from entry_limit.most raw bytes.now rows.now specs.now) page.old }
+    requires { Opened (length bytes.now) raw }
+    ensures { record { answer = view result; page = page.new } ≡ page_from n (reading_from entry_limit.most raw bytes.now abbreviations.now.rows abbreviations.now.specs) page.old }
 {
     let first = first_on(n);
     let mut words = [0u64; 1024];
     let mut here = raw;
     let mut seen: usize = 0;
     while here.position < bytes.len() {
-        let passed = pass_entries(here, bytes, rows, specs, &mut words);
+        let passed = pass_entries(here, bytes, abbreviations, &mut words);
         match passed.answer {
             Ok(()) => {
                 let (items, _) = words.as_chunks::<4>();
@@ -95,31 +93,36 @@ fn read_page(
     Ok(())
 }
 
-// Page `n` of a unit, with its table in the rows: items 60 n to 60 n + 59 of its flat reading, counted
+// Page `n` of a unit, with its table: items 60 n to 60 n + 59 of its flat reading, counted
 // from 0. A unit that refuses anywhere gives a blank page. Without room for a page nothing is read or
 // stored; what is lent past the page stays.
+// Kept (5): the other two functions are the C interface.
 pub fn sheet(
     header: UnitHeader,
     unit: &[u8],
-    rows: &[u64],
-    specs: &[u64],
+    abbreviations: &Abbreviations<'_>,
     endian: RunTimeEndian,
     n: u64,
     page: &mut [u8],
 ) -> Result<(), Error>
-    ensures { record { answer = view result; page = page.new } ≡ shown n (sheet_reading entry_limit.most header unit.now rows.now specs.now endian) page.old }
+    ensures { record { answer = view result; page = page.new } ≡ shown n (sheet_reading entry_limit.most header unit.now abbreviations.now.rows abbreviations.now.specs endian) page.old }
 {
-    if page.len() < PAGE_SIZE {
-        return Err(Error::PageTooShort); // before all other questions
-    }
+    // before all other questions
+    let Some(page) = page.first_chunk_mut::<PAGE_SIZE>() else {
+        return Err(Error::PageTooShort);
+    };
     if unit.len() > MAX_SECTION {
-        return refuse_page(page, Error::SizeLimit);
+        put_blank(page, 0);
+        return Err(Error::SizeLimit);
     }
     match header.entries_buf(unit) {
         Ok(bytes) => {
             let raw = EntriesRaw::at_start(header, endian);
-            read_page(raw, bytes, rows, specs, n, page)
+            read_page(raw, bytes, abbreviations, n, page)
         }
-        Err(error) => refuse_page(page, error),
+        Err(error) => {
+            put_blank(page, 0);
+            Err(error)
+        }
     }
 }

@@ -6,7 +6,7 @@ pub returns-then-is_some : goal.returns-then-is_some
 returns-then-is_some c = lines_full (cc)
 
 pub returns-then-self-lt72 : goal.returns-then-self-lt72
-returns-then-self-lt72 c = lines_none refl (cc) c.if-self-lt72.true refl refl
+returns-then-self-lt72 c = lines_none (cc) refl c.if-self-lt72.true refl refl
 
 pub returns : goal.returns
-returns c = lines_held refl (cc) c.if-self-lt72.false c.put_line-self.auto.out c.put_line-self.ensures refl refl
+returns c = lines_held (cc) c.if-self-lt72.false c.put_line.ensures refl refl refl

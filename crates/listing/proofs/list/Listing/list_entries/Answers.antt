@@ -4,7 +4,7 @@ use Rattle.reader.specs.Views.{view}
 use Rattle.listing.specs.Written.{shelf_of}
 use Rattle.listing.proofs.LinesLaws.{written_as}
 use Rattle.listing.proofs.PartLaws.{entries_short, state_kept, unit_entered, unit_refused, unit_without}
-use Rattle.listing.proofs.list.Shelf.list_entries.Goals as goal
+use Rattle.listing.proofs.list.Listing.list_entries.Goals as goal
 
 pub state_at-requires : goal.state_at-requires
 state_at-requires c = omega (arith, entries_short c.args.self.now.info.now _ (sym c.in-Ok.ensures), c.requires.short)

@@ -7,7 +7,7 @@ use Rattle.listing.specs.Listing.{unit_lines}
 use Rattle.listing.specs.Written.{shelf_of}
 use Rattle.listing.proofs.LinesLaws.{written_as, going_begun, going_further, going_broken, going_written}
 use Rattle.listing.proofs.UnitLaws.{unit_fits, entries_first, entries_none, entries_refused}
-use Rattle.listing.proofs.list.Shelf.list_inner.Goals as goal
+use Rattle.listing.proofs.list.Listing.list_inner.Goals as goal
 
 pub list_entries-requires : goal.list_entries-requires
 list_entries-requires c =
