@@ -8,7 +8,7 @@ use lib.ListN.{length}
 use Rattle.std.specs.Prelude.{Result}
 use Rattle.reader.specs.Answer.{Answer, got, refused, and_then, Holds}
 use Rattle.reader.specs.Sizes.{max_section}
-use Rattle.reader.specs.Views.{view}
+use Rattle.reader.specs.Views.{view, view_by}
 use Rattle.reader.specs.declared.endianity.RunTimeEndian.{RunTimeEndian}
 use Rattle.reader.specs.declared.error.Error.{Error}
 use Rattle.abbrev.specs.Rows.{Blank, Laid, Left, table_rows, table_specs}
@@ -23,10 +23,10 @@ use Rattle.entries.specs.Entry.{Entry}
 use Rattle.entries.specs.Open.{sections_kept, entry_from}
 use Rattle.entries.proofs.SameLaws.{entry_laid}
 use Rattle.typeunit.specs.Search.{type_offset, unit_with, bounded, type_unit}
-use Rattle.typeunit.specs.Types.{TypeUnit, with_entry, type_table, type_entry, or_no_type}
+use Rattle.typeunit.specs.Types.{TypeUnit, with_entry, type_table, type_entry}
 use Rattle.typeunit.specs.TypeRead.{TypeRead}
-use Rattle.typeunit.specs.Views.{view_type_entry}
-use Rattle.typeunit.specs.declared.types.TypeEntry.{TypeEntry}
+use Rattle.typeunit.specs.Views.{view_type}
+use Rattle.entries.specs.declared.entry.Entry as declared_entry
 
 -- an entry beside its unit
 abbrev pub with_unit : UnitHeader → Answer Entry → Answer TypeUnit
@@ -46,20 +46,20 @@ with_laid {m} {k} {rows} {specs} {t} most units e h S L = go (unit_bytes h units
 
 -- ---- what a unit gives, by its questions
 
-module _ {abbrevs units : List ℕ} {e : RunTimeEndian} {rows₀ specs₀ rows specs : List ℕ} {r : TypeEntry} {unit : Answer UnitHeader} where
+module _ {abbrevs units : List ℕ} {e : RunTimeEndian} {rows₀ specs₀ rows specs : List ℕ} {r : Result (UnitHeader × declared_entry.Entry) Error} {unit : Answer UnitHeader} where
   -- the unit was refused
-  pub typed_refused : {n : ℕ} → unit ≡ refused n → Blank rows₀ specs₀ rows specs → view_type_entry r ≡ or_no_type entry_limit.most (refused n) → TypeRead abbrevs units e unit rows₀ specs₀ rows specs r
+  pub typed_refused : {n : ℕ} → unit ≡ refused n → Blank rows₀ specs₀ rows specs → view_by view_type r ≡ refused n → TypeRead abbrevs units e unit rows₀ specs₀ rows specs r
   unfolding type_table type_entry
   typed_refused q b v = record { is = rw q v; left = rw q (b.no_rows, b.no_specs) }
 
   -- its table was read, and then the entry, or one of them was refused
   pub typed_read : {h : UnitHeader} {a : Result ℕ Error} → unit ≡ got h → Tabled abbrevs h.debug_abbrev_offset rows₀ specs₀ rows specs a
-      → view_type_entry r ≡ or_no_type entry_limit.most (and_then (view a) (λ _. with_entry entry_limit.most units rows specs e h))
+      → view_by view_type r ≡ and_then (view a) (λ _. with_entry entry_limit.most units rows specs e h)
       → TypeRead abbrevs units e unit rows₀ specs₀ rows specs r
   unfolding type_table type_entry
   typed_read {h} q t v =
       record {
-        is = rw (q, v, t.is) (ap (or_no_type entry_limit.most) (by _ (sound abbrevs h.debug_abbrev_offset entry_limit (length rows₀ / 5) (length specs₀ / 3)) t.left));
+        is = rw (q, v, t.is) (by _ (sound abbrevs h.debug_abbrev_offset entry_limit (length rows₀ / 5) (length specs₀ / 3)) t.left);
         left = rw q t.left;
       }
     where

@@ -1,12 +1,12 @@
 -- A type entry by its signature (document 02, request 1).
-use Rattle.std.specs.Prelude.{List, ℕ, ◌/◌, pos}
-use Rattle.reader.specs.Answer.{Answer, got, refused, and_then}
+use Rattle.std.specs.Prelude.{List, ℕ, ◌/◌}
+use Rattle.reader.specs.Answer.{Answer, got, and_then}
 use Rattle.reader.specs.declared.endianity.RunTimeEndian.{RunTimeEndian}
 use Rattle.abbrev.specs.Rows.{table_rows, table_specs}
 use Rattle.abbrev.specs.Table.{Limit, Declaration, abbreviations_at}
 use Rattle.unit.specs.Range.{unit_bytes}
 use Rattle.unit.specs.declared.header.UnitHeader.{UnitHeader}
-use Rattle.entries.specs.Entry.{Entry, null_entry}
+use Rattle.entries.specs.Entry.{Entry}
 use Rattle.entries.specs.Open.{entry_from}
 use Rattle.typeunit.specs.Search.{type_offset}
 
@@ -29,12 +29,3 @@ module _ (l : Limit) (abbrevs units : List ℕ) (e : RunTimeEndian) (m k : ℕ) 
   -- behind the table's questions the entry
   unfoldable pub type_entry : Answer TypeUnit
   type_entry = and_then unit (λ h. and_then type_table (λ t. with_entry l.most units (table_rows m t) (table_specs k t) e h))
-
--- the header and the entry; after a refusal a null at offset and depth 0
-pub record TypeAt : Type 0 where
-  pub answer : Answer UnitHeader
-  pub entry : Entry
-
-abbrev pub or_no_type : ℕ → Answer TypeUnit → TypeAt
-or_no_type most (got x) = record { answer = got x.header; entry = x.entry }
-or_no_type most (refused n) = record { answer = refused n; entry = null_entry most 0 (pos 0) }

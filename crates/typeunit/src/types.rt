@@ -1,18 +1,19 @@
 // The unit of .debug_types that carries a signature, and its type entry.
+// Kept (5): these are what C hands to the one call that it has. `Sought { types, signature, endian }.unit()` for
+// `type_unit(types, signature, endian)` would be made for that call and taken apart in it.
 
 ghost use Rattle.std.specs.Prelude.{◌≡◌};
 ghost use Rattle.abbrev.specs.Table.{entry_limit};
-ghost use Rattle.reader.specs.Answer.{refused};
-ghost use Rattle.reader.specs.Errors.{number_of};
-ghost use Rattle.reader.specs.Views.{view};
+ghost use Rattle.reader.specs.Views.{view, view_by};
 ghost use Rattle.typeunit.specs.Search.{signature_of, carries, type_offset, unit_with, type_unit};
-ghost use Rattle.typeunit.specs.Types.{with_entry, or_no_type};
-ghost use Rattle.typeunit.specs.TypeRead.{TypeRead};
-ghost use Rattle.typeunit.specs.Views.{view_signature, view_type_entry};
+ghost use Rattle.typeunit.specs.Types.{with_entry};
+ghost use Rattle.typeunit.specs.TypeRead.{TypeReadIn};
+ghost use Rattle.typeunit.specs.Views.{view_signature, view_type};
 ghost use Rattle.unit.specs.Parse.{debug_types};
 
-use abbrev::rows::wipe;
-use entries::entry::{Entry, null_at};
+use abbrev::abbreviations::Abbreviations;
+use abbrev::lent::LentRows;
+use entries::entry::Entry;
 use entries::open::entry;
 use reader::common::MAX_SECTION;
 use reader::endianity::RunTimeEndian;
@@ -20,14 +21,9 @@ use reader::error::Error;
 use unit::header::{UnitHeader, UnitType};
 use unit::parse::{SectionId, Signature};
 
-// A unit's header and its type entry; after a refusal a null at offset and depth 0.
-#[derive(Clone, Copy)]
-pub struct TypeEntry {
-    pub answer: Result<UnitHeader, Error>,
-    pub entry: Entry,
-}
-
 // Types 2 and 6 have a signature, and the offset of the type in the unit; a dwo_id is none.
+// Kept (4): both types are of `unit`, so that `From` could only stand there, and None is an answer: it would read
+// `Option::<Signature>::from(header.unit_type)`, to be asked by this crate alone.
 fn signature_of(unit_type: UnitType) -> Option<Signature>
     ensures { view_signature result ≡ signature_of unit_type }
 {
@@ -90,36 +86,19 @@ fn bounded_unit(
     Ok(header)
 }
 
-fn refuse_type(error: Error) -> TypeEntry
-    ensures { view_type_entry result ≡ or_no_type entry_limit.most (refused (number_of error)) }
-{
-    TypeEntry {
-        answer: Err(error),
-        entry: null_at(0, 0),
-    }
-}
-
 // The type entry of a unit, with the unit's table in the rows.
 #[tactic(auto, unfolding(crate::specs::Types::with_entry))]
 fn entry_of(
     header: UnitHeader,
     types: &[u8],
-    rows: &[u64],
-    specs: &[u64],
+    abbreviations: &Abbreviations<'_>,
     endian: RunTimeEndian,
-) -> TypeEntry
-    ensures { view_type_entry result ≡ or_no_type entry_limit.most (with_entry entry_limit.most types.now rows.now specs.now endian header) }
+) -> Result<(UnitHeader, Entry), Error>
+    ensures { view_by view_type result ≡ with_entry entry_limit.most types.now abbreviations.now.rows abbreviations.now.specs endian header }
 {
-    match header.bytes(types) {
-        Ok(unit) => {
-            let read = entry(header, unit, rows, specs, type_offset(header), endian);
-            TypeEntry {
-                answer: read.answer.map(|()| header),
-                entry: read.entry,
-            }
-        }
-        Err(e) => refuse_type(e),
-    }
+    let unit = header.bytes(types)?;
+    let read = entry(header, unit, abbreviations, type_offset(header), endian)?;
+    Ok((header, read))
 }
 
 // The first unit of .debug_types that carries the signature, and its type entry, read raw at depth 0
@@ -130,19 +109,18 @@ pub fn type_entry(
     signature: u64,
     abbrevs: &[u8],
     endian: RunTimeEndian,
-    rows: &mut [u64],
-    specs: &mut [u64],
-) -> TypeEntry
-    ensures { TypeRead abbrevs.now types.now endian (type_unit debug_types abbrevs.now types.now signature endian) rows.old specs.old rows.new specs.new result }
+    lent: &mut LentRows<'_>,
+) -> Result<(UnitHeader, Entry), Error>
+    ensures { TypeReadIn abbrevs.now types.now endian (type_unit debug_types abbrevs.now types.now signature endian) lent.old lent.new result }
 {
     match bounded_unit(types, signature, abbrevs, endian) {
-        Ok(header) => match header.abbreviations(abbrevs, rows, specs) {
-            Ok(_) => entry_of(header, types, rows, specs, endian),
-            Err(e) => refuse_type(e),
-        },
+        Ok(header) => {
+            header.abbreviations(abbrevs, lent)?;
+            entry_of(header, types, &lent.table(), endian)
+        }
         Err(e) => {
-            wipe(rows, specs);
-            refuse_type(e)
+            lent.wipe();
+            Err(e)
         }
     }
 }

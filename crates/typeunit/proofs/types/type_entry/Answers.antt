@@ -1,12 +1,13 @@
-use mathlib.Core.Path.{sym}
+use mathlib.Core.Path.{sym, refl}
+use Rattle.std.proofs.Common.{rules}
 use Rattle.typeunit.proofs.TypeLaws.{typed_refused, typed_read}
 use Rattle.typeunit.proofs.types.type_entry.Goals as goal
 
-pub returns-in-Ok-abbreviations : goal.returns-in-Ok-abbreviations
-returns-in-Ok-abbreviations c = typed_read (sym c.in-Ok.ensures) c.abbreviations.ensures (rw c.in-Ok-abbreviations.is c.entry_of.ensures)
+pub returns-in_ok-abbreviations-in-Ok : goal.returns-in_ok-abbreviations-in-Ok
+returns-in_ok-abbreviations-in-Ok c = let t = c.abbreviations.ensures in record { same = t.same; read = typed_read (sym c.in-Ok.ensures) t.tabled (search rules) }
 
-pub returns-in-Err-abbreviations : goal.returns-in-Err-abbreviations
-returns-in-Err-abbreviations c = typed_read (sym c.in-Ok.ensures) c.abbreviations.ensures (rw c.in-Err-abbreviations.is c.refuse_type.ensures)
+pub returns-in_err-abbreviations-in-Ok : goal.returns-in_err-abbreviations-in-Ok
+returns-in_err-abbreviations-in-Ok c = let t = c.abbreviations.ensures in record { same = t.same; read = typed_read (sym c.in-Ok.ensures) t.tabled (search rules) }
 
 pub returns-in-Err : goal.returns-in-Err
-returns-in-Err c = typed_refused (sym c.in-Err.ensures) c.wipe.ensures c.refuse_type-in-Err.ensures
+returns-in-Err c = let w = c.wipe.ensures in record { same = w.same; read = typed_refused (sym c.in-Err.ensures) w.blank refl }
