@@ -1,35 +1,31 @@
 -- Laws of words stored one after another in a lent slice.
-use Rattle.std.proofs.Common.{◌≡◌, sym, ap, ◌∙◌, ℕ, ◌-◌, List, ◌++◌, length, take, replicate, arith, append_assoc}
+use Rattle.std.proofs.Common.{◌≡◌, sym, ap, ◌∙◌, ℕ, List, ◌++◌, length, arith, append_assoc}
 use Rattle.std.proofs.lemmas.Grind.{common_steps, elements}
 use Rattle.capi.specs.Words.{Says, Put}
-
--- what is handed back where zeros follow all words
-pub said : {before b after : List ℕ} {r s : ℕ} {ws : List ℕ} → Put before b 0 r ws → length b ≡ length before → after ≡ take r b ++ replicate (length b - r) 0 → s ≡ 0 → Says 0 ws before after s
-said p l e z = record { status_is = z; words_are = let w = p.words in let i = p.inside in grind (arith, elements) }
+use Rattle.capi.specs.Stored.{Begun, Stored, Finished}
+use Rattle.capi.specs.declared.out.Words.{Words}
 
 -- one after another
-pub put_then : {a b : List ℕ} {at r : ℕ} {ws : List ℕ} → Put a b at r ws → length b ≡ length a → {c : List ℕ} {q : ℕ} {vs : List ℕ} → Put b c r q vs → Put a c at q (ws ++ vs)
+put_then : {a b : List ℕ} {at r : ℕ} {ws : List ℕ} → Put a b at r ws → length b ≡ length a → {c : List ℕ} {q : ℕ} {vs : List ℕ} → Put b c r q vs → Put a c at q (ws ++ vs)
 put_then p l s = record { inside = omega (arith, s.inside); words = let w = p.words in let v = s.words in grind (arith, common_steps) }
 
--- what is handed back where zeros follow two pieces
-pub said_both : {a b c after : List ℕ} {q r s : ℕ} {ws vs : List ℕ} → Put a b 0 q ws → length b ≡ length a → Put b c q r vs → length c ≡ length b → after ≡ take r c ++ replicate (length c - r) 0 → s ≡ 0 → Says 0 (ws ++ vs) a after s
-said_both p l v m e z = said (put_then p l v) (m ∙ l) e z
+pub stored_then : {a b : Words} {ws : List ℕ} → Stored a b ws → {c : Words} {vs : List ℕ} → Stored b c vs → Stored a c (ws ++ vs)
+stored_then s t = record { lent = t.lent ∙ s.lent; same = t.same ∙ s.same; put = put_then s.put s.same t.put }
+
+-- what is handed back where zeros follow all words
+pub said : {before after : List ℕ} {a b : Words} {r : ℕ} {ws : List ℕ} → Begun before a → Stored a b ws → Finished b after r → Says 0 ws before after r
+said n t f = record { status_is = f.status; words_are = let h = n.holds in let z = n.none in let e = f.words in let w = t.put.words in let i = t.put.inside in let l = t.same in grind (arith, elements) }
 
 -- the words of some pieces are stored, and those of the rest follow
-pub record Running (before : List ℕ) (at : ℕ) (all rest out : List ℕ) (end : ℕ) : Type 0 where
-  pub same : length out ≡ length before
+pub record Running (a : Words) (all rest : List ℕ) (b : Words) : Type 0 where
   pub done : List ℕ
-  pub put : Put before out at end done
+  pub stored : Stored a b done
   pub is : all ≡ done ++ rest
 
-module _ {before : List ℕ} {at : ℕ} {all rest out : List ℕ} {end : ℕ} (t : Running before at all rest out end) where
-  pub running_more : (ws rest' : List ℕ) {out' : List ℕ} {end' : ℕ}
-      → rest ≡ ws ++ rest' → length out' ≡ length out → Put out out' end end' ws
-      → Running before at all rest' out' end'
-  running_more ws rest' e l p =
-      record {
-        same = l ∙ t.same;
-        done = t.done ++ ws;
-        put = put_then t.put t.same p;
-        is = t.is ∙ ap (λ (x : List ℕ). t.done ++ x) e ∙ sym (append_assoc t.done ws rest');
-      }
+pub running_more : {a b c : Words} {all rest : List ℕ} → Running a all rest b → (ws rest' : List ℕ) → rest ≡ ws ++ rest' → Stored b c ws → Running a all rest' c
+running_more t ws rest' e s =
+    record {
+      done = t.done ++ ws;
+      stored = stored_then t.stored s;
+      is = t.is ∙ ap (λ (x : List ℕ). t.done ++ x) e ∙ sym (append_assoc t.done ws rest');
+    }

@@ -6,3 +6,5 @@ pub mod Calls
 pub mod Lines
 pub mod Pages
 pub mod Views
+pub mod Stored
+pub mod Kinds

@@ -6,9 +6,11 @@ ghost use Rattle.entries.specs.Cursor.{opened_cursor};
 ghost use Rattle.reader.specs.Views.{view};
 ghost use Rattle.entries.specs.Views.{view_cursor, view_cursor_next};
 ghost use Rattle.capi.specs.Calls.{answer_words, raw_words, called_words, cursor_call, cursor_calls};
-ghost use Rattle.capi.specs.Words.{Gives, encoding_of, endian_of, Put};
+ghost use Rattle.capi.specs.Stored.{Stored};
+ghost use Rattle.capi.specs.Words.{Gives, encoding_of, endian_of};
 
-use super::out::{encoding_of, endian_of, finish, put, put_entry, refuse};
+use super::out::{Words, refuse, source_of, status_of};
+use abbrev::abbreviations::Abbreviations;
 use entries::cursor::{CursorNext, EntriesCursor};
 use entries::raw::EntriesRaw;
 use reader::error::Error;
@@ -18,77 +20,90 @@ use reader::twos::to_word;
 pub(crate) fn answer_words(answer: Result<bool, Error>) -> (u64, u64)
     ensures { answer_words (view answer) ≡ result.0 ∷ result.1 ∷ [] }
 {
-    match answer {
-        Ok(reached) => (0, u64::from(reached)),
-        Err(e) => (e.number(), 0),
-    }
+    (status_of(answer), u64::from(answer.unwrap_or(false)))
 }
 
 // What a call says, and position and depth of the next item.
-pub(crate) fn put_state(
-    out: &mut [u64],
-    at: usize,
-    answer: Result<bool, Error>,
-    raw: EntriesRaw,
-) -> usize
-    requires { at ≤ length out.old }
-    ensures { Put out.old out.new at result (answer_words (view answer) ++ raw_words raw) }
+pub(crate) fn put_state(words: &mut Words<'_>, answer: Result<bool, Error>, raw: EntriesRaw)
+    ensures { Stored words.old words.new (answer_words (view answer) ++ raw_words raw) }
 {
     let (status, reached) = answer_words(answer);
-    put(
-        out,
-        at,
-        &[status, reached, raw.position as u64, to_word(raw.depth)],
-    )
+    words.put(&[status, reached, raw.position as u64, to_word(raw.depth)]);
 }
 
-// One call: 0 is next_entry, 1 next_dfs, any other number next_sibling.
-fn call(cursor: EntriesCursor, op: u8, bytes: &[u8], rows: &[u64], specs: &[u64]) -> CursorNext
-    ensures { view_cursor_next result ≡ cursor_call entry_limit.most bytes.now rows.now specs.now op (view_cursor cursor) }
-{
-    match op {
-        0 => cursor.next_entry(bytes, rows, specs),
-        1 => cursor.next_dfs(bytes, rows, specs),
-        _ => cursor.next_sibling(bytes, rows, specs),
+// The calls, of which a caller names one by a byte.
+#[derive(Clone, Copy, Debug, PartialEq, Eq)]
+enum CursorCall {
+    // next_entry
+    Entry,
+    // next_dfs
+    Dfs,
+    // next_sibling
+    Sibling,
+}
+
+// Kept (1, 2): the numbers are C's, and here they become an enum; `lent` has one of other calls.
+impl From<u8> for CursorCall {
+    ghost use Rattle.capi.specs.Kinds.{cursor_call_of};
+
+    ghost from_gives = { λ op call. call ≡ cursor_call_of op };
+
+    fn from(op: u8) -> CursorCall {
+        match op {
+            0 => CursorCall::Entry,
+            1 => CursorCall::Dfs,
+            _ => CursorCall::Sibling,
+        }
     }
 }
 
-fn put_called(out: &mut [u64], at: usize, called: CursorNext) -> usize
-    requires { at ≤ length out.old }
-    ensures { Put out.old out.new at result (called_words (view_cursor_next called)) }
+fn call(
+    cursor: EntriesCursor,
+    op: u8,
+    bytes: &[u8],
+    abbreviations: &Abbreviations<'_>,
+) -> CursorNext
+    ensures { view_cursor_next result ≡ cursor_call entry_limit.most bytes.now abbreviations.now.rows abbreviations.now.specs op (view_cursor cursor) }
 {
-    let state = put_state(out, at, called.answer, called.cursor.input);
-    if out.len() <= state {
-        return state;
+    match CursorCall::from(op) {
+        CursorCall::Entry => cursor.next_entry(bytes, abbreviations),
+        CursorCall::Dfs => cursor.next_dfs(bytes, abbreviations),
+        CursorCall::Sibling => cursor.next_sibling(bytes, abbreviations),
     }
-    put_entry(out, state, called.cursor.entry)
 }
 
+fn put_called(words: &mut Words<'_>, called: CursorNext)
+    ensures { Stored words.old words.new (called_words (view_cursor_next called)) }
+{
+    put_state(words, called.answer, called.cursor.input);
+    if !words.is_full() {
+        words.put_entry(called.cursor.entry);
+    }
+}
+
+// Kept (5): bytes and table stay while the calls are made; a struct of them and the calls would be made once for
+// each exported function and taken apart here.
 #[tactic(auto, unfolding(crate::specs::Calls::cursor_calls))]
 fn run(
     cursor: EntriesCursor,
     bytes: &[u8],
-    rows: &[u64],
-    specs: &[u64],
+    abbreviations: &Abbreviations<'_>,
     calls: &[u8],
-    out: &mut [u64],
-) -> usize
-    ensures { Put out.old out.new 0 result (cursor_calls entry_limit.most bytes.now rows.now specs.now calls.now (view_cursor cursor)) }
+    words: &mut Words<'_>,
+)
+    ensures { Stored words.old words.new (cursor_calls entry_limit.most bytes.now abbreviations.now.rows abbreviations.now.specs calls.now (view_cursor cursor)) }
 {
     let mut held = cursor;
-    let mut end = 0;
     for op in calls {
-        let called = call(held, *op, bytes, rows, specs);
-        end = put_called(out, end, called);
+        let called = call(held, *op, bytes, abbreviations);
+        put_called(words, called);
         held = called.cursor;
     }
-    end
 }
 
 // A cursor over a part of a unit that starts at the offset `start`, and calls on it: 0 is next_entry,
 // 1 next_dfs, any other number next_sibling. Words for each call: status, 1 where something was reached,
 // position and depth of the next item, then the entry or null that is held.
-#[tactic(auto, using(crate::proofs::OutLaws::said, crate::proofs::AnswerLaws::cursor_back))]
 pub fn tehkumir_cursor(
     bytes: &[u8],
     start: usize,
@@ -103,12 +118,13 @@ pub fn tehkumir_cursor(
 ) -> u64
     ensures { Gives (cursor_calls entry_limit.most bytes.now rows.now specs.now calls.now) (opened_cursor entry_limit.most (length bytes.now) start (encoding_of version is_64 width) (endian_of is_big)) out.old out.new result }
 {
-    let encoding = encoding_of(version, is_64, width);
-    let opened = EntriesCursor::new(bytes, start, encoding, endian_of(is_big));
-    match opened.answer {
-        Ok(()) => {
-            let end = run(opened.cursor, bytes, rows, specs, calls, out);
-            finish(out, end)
+    let source = source_of(start, version, is_64, width, is_big);
+    match EntriesCursor::new(bytes, source) {
+        Ok(cursor) => {
+            let abbreviations = Abbreviations::new(rows, specs);
+            let mut words = Words::new(out);
+            run(cursor, bytes, &abbreviations, calls, &mut words);
+            words.finish()
         }
         Err(e) => refuse(out, e),
     }

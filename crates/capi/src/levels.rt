@@ -4,73 +4,68 @@ ghost use Rattle.std.specs.Prelude.{◌≡◌, ◌≤◌, length};
 ghost use Rattle.abbrev.specs.Table.{entry_limit};
 ghost use Rattle.tree.specs.Views.{view_tree, view_tree_next};
 ghost use Rattle.capi.specs.Calls.{answered_words, tree_call, tree_calls, opened_tree};
-ghost use Rattle.capi.specs.Words.{Gives, encoding_of, endian_of, Put};
+ghost use Rattle.capi.specs.Stored.{Stored};
+ghost use Rattle.capi.specs.Words.{Gives, encoding_of, endian_of};
 
 use super::cursor::answer_words;
-use super::out::{encoding_of, endian_of, finish, put, put_entry, refuse};
+use super::out::{Words, refuse, source_of};
+use abbrev::abbreviations::Abbreviations;
 use entries::cursor::EntriesCursor;
 use reader::twos::{from_word, to_word};
 use tree::tree::{EntriesTree, TreeNext};
 
 // One call: 0 is the root, any other number the level, in two's complement.
-fn call(tree: EntriesTree, level: u64, bytes: &[u8], rows: &[u64], specs: &[u64]) -> TreeNext
-    ensures { view_tree_next result ≡ tree_call entry_limit.most bytes.now rows.now specs.now level (view_tree tree) }
+// Kept (1, 7): the numbers are C's. As an enum, Root and Next(level), it would be an Option that is made and taken apart
+// in this one function.
+fn call(tree: EntriesTree, level: u64, bytes: &[u8], abbreviations: &Abbreviations<'_>) -> TreeNext
+    ensures { view_tree_next result ≡ tree_call entry_limit.most bytes.now abbreviations.now.rows abbreviations.now.specs level (view_tree tree) }
 {
     if level == 0 {
-        return tree.root(bytes, rows, specs);
+        return tree.root(bytes, abbreviations);
     }
-    tree.next(bytes, rows, specs, from_word(level))
+    tree.next(bytes, abbreviations, from_word(level))
 }
 
-fn put_answered(out: &mut [u64], at: usize, answered: TreeNext) -> usize
-    requires { at ≤ length out.old }
-    ensures { Put out.old out.new at result (answered_words (view_tree_next answered)) }
+fn put_answered(words: &mut Words<'_>, answered: TreeNext)
+    ensures { Stored words.old words.new (answered_words (view_tree_next answered)) }
 {
     let (status, reached) = answer_words(answered.answer);
     let tree = answered.tree;
     let raw = tree.cursor.input;
-    let state = put(
-        out,
-        at,
-        &[
-            status,
-            reached,
-            u64::from(tree.rooted),
-            raw.position as u64,
-            to_word(raw.depth),
-        ],
-    );
-    if out.len() <= state {
-        return state;
+    words.put(&[
+        status,
+        reached,
+        u64::from(tree.rooted),
+        raw.position as u64,
+        to_word(raw.depth),
+    ]);
+    if !words.is_full() {
+        words.put_entry(tree.cursor.entry);
     }
-    put_entry(out, state, tree.cursor.entry)
 }
 
+// Kept (5): as `run` in cursor.rt.
 #[tactic(auto, unfolding(crate::specs::Calls::tree_calls))]
 fn run(
     tree: EntriesTree,
     bytes: &[u8],
-    rows: &[u64],
-    specs: &[u64],
+    abbreviations: &Abbreviations<'_>,
     levels: &[u64],
-    out: &mut [u64],
-) -> usize
-    ensures { Put out.old out.new 0 result (tree_calls entry_limit.most bytes.now rows.now specs.now levels.now (view_tree tree)) }
+    words: &mut Words<'_>,
+)
+    ensures { Stored words.old words.new (tree_calls entry_limit.most bytes.now abbreviations.now.rows abbreviations.now.specs levels.now (view_tree tree)) }
 {
     let mut held = tree;
-    let mut end = 0;
     for level in levels {
-        let answered = call(held, *level, bytes, rows, specs);
-        end = put_answered(out, end, answered);
+        let answered = call(held, *level, bytes, abbreviations);
+        put_answered(words, answered);
         held = answered.tree;
     }
-    end
 }
 
 // A tree over a part of a unit that starts at the offset `start`, and calls on it: 0 is the root, any
 // other number a level, in two's complement. Words for each call: status, 1 where an entry was reached,
 // 1 where the tree has a root, position and depth of the next item, then the entry or null that is held.
-#[tactic(auto, using(crate::proofs::OutLaws::said, crate::proofs::AnswerLaws::cursor_back))]
 pub fn tehkumir_tree(
     bytes: &[u8],
     start: usize,
@@ -85,16 +80,17 @@ pub fn tehkumir_tree(
 ) -> u64
     ensures { Gives (tree_calls entry_limit.most bytes.now rows.now specs.now levels.now) (opened_tree entry_limit.most (length bytes.now) start (encoding_of version is_64 width) (endian_of is_big)) out.old out.new result }
 {
-    let encoding = encoding_of(version, is_64, width);
-    let opened = EntriesCursor::new(bytes, start, encoding, endian_of(is_big));
-    match opened.answer {
-        Ok(()) => {
+    let source = source_of(start, version, is_64, width, is_big);
+    match EntriesCursor::new(bytes, source) {
+        Ok(cursor) => {
             let tree = EntriesTree {
                 rooted: false,
-                cursor: opened.cursor,
+                cursor,
             };
-            let end = run(tree, bytes, rows, specs, levels, out);
-            finish(out, end)
+            let abbreviations = Abbreviations::new(rows, specs);
+            let mut words = Words::new(out);
+            run(tree, bytes, &abbreviations, levels, &mut words);
+            words.finish()
         }
         Err(e) => refuse(out, e),
     }

@@ -1,5 +1,7 @@
 // The library's calls on numbers and slices alone, for `capi_c`, which exports them, and for programs.
 // Each answers 0 or the number of a refusal, and puts the words of its answer into a lent slice.
+// Kept (1, 5): the C interface: what capi_c exports answers 0 or the number of a refusal and takes parameters one by
+// one (include/tehkumir.h); the private functions that end such a call answer its status too.
 
 #![tactic(auto)]
 

@@ -4,6 +4,7 @@ ghost use Rattle.listing.specs.Listing.{place_in};
 ghost use Rattle.capi.specs.Lines.{ListedWords};
 
 use super::out::give;
+use abbrev::lent::LentRows;
 use listing::list::list;
 use listing::place::ListingPlace;
 use reader::twos::to_word;
@@ -31,7 +32,8 @@ pub fn tehkumir_list(
         offset,
         depth,
     };
-    let listed = list(abbrevs, info, rows, specs, place, text);
+    let mut lent = LentRows { rows, specs };
+    let listed = list(abbrevs, info, &mut lent, place, text);
     let next = listed.next.unwrap_or_default();
     give(
         out,

@@ -42,6 +42,7 @@ fn give_unsigned(out: &mut [u64], answer: Read<Counted<u64>>) -> u64
 }
 
 // Words: the number, the next place, how many bytes it has, 1 where fewer would do.
+// Kept (2): the C interface has a function for each size.
 pub fn tehkumir_read_uleb128(bytes: &[u8], at: usize, out: &mut [u64]) -> u64
     ensures { Gives counted_words (uleb_counted_at bytes.now at 64) out.old out.new result }
 {
@@ -49,6 +50,7 @@ pub fn tehkumir_read_uleb128(bytes: &[u8], at: usize, out: &mut [u64]) -> u64
 }
 
 // Words: the number, the next place, how many bytes it has, 1 where fewer would do.
+// Kept (2): as `tehkumir_read_uleb128`.
 pub fn tehkumir_read_uleb128_u16(bytes: &[u8], at: usize, out: &mut [u64]) -> u64
     ensures { Gives counted_words (uleb_counted_at bytes.now at 16) out.old out.new result }
 {

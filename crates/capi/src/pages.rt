@@ -1,26 +1,14 @@
 // A page of the shelf sheet.
 
-ghost use Rattle.std.specs.Prelude.{◌≡◌};
-ghost use Rattle.reader.specs.Views.{view};
 ghost use Rattle.abbrev.specs.Table.{entry_limit};
 ghost use Rattle.sheet.specs.Sheet.{shown};
 ghost use Rattle.capi.specs.Pages.{sheet_in, Shows};
-ghost use Rattle.capi.specs.Words.{status_of, endian_of};
+ghost use Rattle.capi.specs.Words.{endian_of};
 
-use super::out::endian_of;
+use super::out::{endian_of, status_of};
 use super::units::unit_in;
-use reader::error::Error;
+use abbrev::abbreviations::Abbreviations;
 use sheet::page::{refuse_page, sheet};
-
-// C gets an answer without words as a status: 0 or the number of the refusal.
-fn status_of(answer: Result<(), Error>) -> u64
-    ensures { result ≡ status_of (view answer) }
-{
-    match answer {
-        Ok(()) => 0,
-        Err(e) => e.number(),
-    }
-}
 
 // Page `n` of the unit at `unit` of .debug_info, with the unit's table in the rows: 60 lines of 33 bytes,
 // items 60 n to 60 n + 59 of the unit, counted from 0. A refusal anywhere in the unit leaves a blank page; 23
@@ -38,8 +26,9 @@ pub fn tehkumir_sheet(
     ensures { Shows (shown n (sheet_in entry_limit.most section.now unit (endian_of is_big) rows.now specs.now) page.old) page.new result }
 {
     let endian = endian_of(is_big);
+    let abbreviations = Abbreviations::new(rows, specs);
     match unit_in(section, unit, endian) {
-        Ok((header, bytes)) => status_of(sheet(header, bytes, rows, specs, endian, n, page)),
+        Ok((header, bytes)) => status_of(sheet(header, bytes, &abbreviations, endian, n, page)),
         Err(e) => status_of(refuse_page(page, e)),
     }
 }

@@ -6,8 +6,8 @@ ghost use Rattle.capi.specs.Tables.{TabledAs};
 ghost use Rattle.capi.specs.Words.{Gives, if_there, found_words};
 
 use super::out::{give, refuse};
-use abbrev::lookup::get;
-use abbrev::table::DebugAbbrev;
+use abbrev::abbreviations::Abbreviations;
+use abbrev::lent::LentRows;
 
 // The table at an offset of .debug_abbrev into the rows, which are zero after a refusal. Words: how
 // many abbreviations it has.
@@ -20,7 +20,8 @@ pub fn tehkumir_abbreviations(
 ) -> u64
     ensures { TabledAs section.now offset rows.old specs.old rows.new specs.new out.old out.new result }
 {
-    match DebugAbbrev::abbreviations(section, offset, rows, specs) {
+    let mut lent = LentRows { rows, specs };
+    match lent.read_table(section, offset) {
         Ok(count) => give(out, &[count as u64]),
         Err(e) => refuse(out, e),
     }
@@ -30,7 +31,7 @@ pub fn tehkumir_abbreviations(
 pub fn tehkumir_get(rows: &[u64], specs: &[u64], code: u64, out: &mut [u64]) -> u64
     ensures { Gives (if_there found_words) (lookup entry_limit.most rows.now specs.now code) out.old out.new result }
 {
-    match get(rows, specs, code) {
+    match Abbreviations::new(rows, specs).get(code) {
         Ok(Some(found)) => give(
             out,
             &[

@@ -3,7 +3,7 @@
 ghost use Rattle.attribute.specs.Attributes.{read_attribute};
 ghost use Rattle.capi.specs.Words.{Gives, encoding_of, endian_of, specification_by, read_attribute_words};
 
-use super::out::{encoding_of, endian_of, finish, put, put_attribute, refuse};
+use super::out::{Words, refuse, source_of};
 use abbrev::lookup::AttributeSpecification;
 use attribute::parse::parse_attribute;
 
@@ -24,17 +24,18 @@ pub fn tehkumir_read_attribute(
 ) -> u64
     ensures { Gives read_attribute_words (read_attribute bytes.now start (encoding_of version is_64 width) (endian_of is_big) (specification_by name form constant) at) out.old out.new result }
 {
-    let encoding = encoding_of(version, is_64, width);
+    let source = source_of(start, version, is_64, width, is_big);
     let spec = AttributeSpecification {
         name,
         form,
         constant,
     };
-    match parse_attribute(bytes, start, at, encoding, endian_of(is_big), spec) {
+    match parse_attribute(bytes, at, source, spec) {
         Ok((attribute, next)) => {
-            let first = put(out, 0, &[next as u64]);
-            let end = put_attribute(out, first, attribute);
-            finish(out, end)
+            let mut words = Words::new(out);
+            words.put(&[next as u64]);
+            words.put_attribute(attribute);
+            words.finish()
         }
         Err(e) => refuse(out, e),
     }

@@ -1,5 +1,6 @@
 // The library for programs in other languages: the functions of `capi`, exported under their names.
 // `./staticlib` writes it to target/staticlib/libcapi.a.
+// Kept (1, 2, 7): the C interface: statuses, names and parameters are those of include/tehkumir.h.
 
 #![tactic(auto)]
 

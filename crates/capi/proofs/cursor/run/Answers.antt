@@ -5,4 +5,4 @@ use Rattle.capi.proofs.cursor.run.Goals as goal
 
 pub loop-op-preserved : goal.loop-op-preserved
 unfolding cursor_calls
-loop-op-preserved c = running_more c.loop-op.invariant _ _ (rw (drop_more c.args.calls.now c.loop-op.op-index 0 c.loop-op-test.true, ← c.call-called.ensures)) c.put_called-end.auto.out c.put_called-end.ensures
+loop-op-preserved c = running_more c.loop-op.invariant _ _ (rw (drop_more c.args.calls.now c.loop-op.op-index 0 c.loop-op-test.true, ← c.call-called.ensures)) c.put_called.ensures

@@ -6,4 +6,4 @@ use Rattle.capi.proofs.OutLaws.{Running}
 use Rattle.capi.proofs.cursor.run.Given as goal
 
 abbrev pub invariant-loop-op : goal.invariant-loop-op
-invariant-loop-op l = Running l.initial.out 0 (cursor_calls entry_limit.most l.bytes l.rows l.specs l.calls (view_cursor l.initial.held)) (cursor_calls entry_limit.most l.bytes l.rows l.specs (drop l.op-index l.calls) (view_cursor l.held)) l.out l.end
+invariant-loop-op l = Running l.initial.words (cursor_calls entry_limit.most l.bytes l.abbreviations.rows l.abbreviations.specs l.calls (view_cursor l.initial.held)) (cursor_calls entry_limit.most l.bytes l.abbreviations.rows l.abbreviations.specs (drop l.op-index l.calls) (view_cursor l.held)) l.words

@@ -6,4 +6,4 @@ use Rattle.capi.proofs.OutLaws.{Running}
 use Rattle.capi.proofs.levels.run.Given as goal
 
 abbrev pub invariant-loop-level : goal.invariant-loop-level
-invariant-loop-level l = Running l.initial.out 0 (tree_calls entry_limit.most l.bytes l.rows l.specs l.levels (view_tree l.initial.held)) (tree_calls entry_limit.most l.bytes l.rows l.specs (drop l.level-index l.levels) (view_tree l.held)) l.out l.end
+invariant-loop-level l = Running l.initial.words (tree_calls entry_limit.most l.bytes l.abbreviations.rows l.abbreviations.specs l.levels (view_tree l.initial.held)) (tree_calls entry_limit.most l.bytes l.abbreviations.rows l.abbreviations.specs (drop l.level-index l.levels) (view_tree l.held)) l.words

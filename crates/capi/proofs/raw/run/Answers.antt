@@ -5,4 +5,4 @@ use Rattle.capi.proofs.raw.run.Goals as goal
 
 pub loop-op-preserved : goal.loop-op-preserved
 unfolding raw_calls
-loop-op-preserved c = running_more c.loop-op.invariant _ _ (rw (drop_more c.args.calls.now c.loop-op.op-index 0 c.loop-op-test.true, ← c.call-next.ensures.raw_is)) c.call-next.auto.out c.call-next.ensures.put
+loop-op-preserved g c = running_more c.loop-op.invariant _ _ (rw (drop_more c.args.calls.now c.loop-op.op-index 0 c.loop-op-test.true, ← c.call-held.ensures.raw_is)) c.call-held.ensures.stored
