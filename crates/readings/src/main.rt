@@ -29,8 +29,8 @@ fn proved(rt: &impl Print)
     units::first(rt, "empty section", b"");
     let type_7 = b"\x08\x00\x00\x00\x05\x00\x07\x03\x00\x00\x00\x00";
     units::first(rt, "version 5, type 7, width 3", type_7);
-    values::both(rt, "form 16", &[3, 0x16, 0], 8, b"\x21");
-    values::both(rt, "form 01", &[3, 0x01, 0], 3, b"\x01\x02\x03");
+    values::both(rt, "form 16", &[[3, 0x16, 0]], 8, b"\x21");
+    values::both(rt, "form 01", &[[3, 0x01, 0]], 3, b"\x01\x02\x03");
 }
 
 // The other readings, with an offset that has an entry, calls on a lent state, and the sum that would
@@ -54,7 +54,13 @@ fn others(rt: &impl Print) {
     units::offset(rt, 19);
     units::lent_calls(rt);
     let block = b"\xff\xff\xff\xff\xff\xff\xff\xff\xff\x01\x00";
-    values::both(rt, "forms 09 and 0b", &[3, 0x09, 0, 3, 0x0b, 0], 8, block);
+    values::both(
+        rt,
+        "forms 09 and 0b",
+        &[[3, 0x09, 0], [3, 0x0b, 0]],
+        8,
+        block,
+    );
 }
 
 // DWARF 5, section 7.6, tables 7.7 and 7.8.

@@ -6,6 +6,8 @@ use reader::leb128::{read_sleb128, read_uleb128, read_uleb128_u16};
 use std::fmt::Display;
 
 // A number, and behind a padded one how many bytes it has, or the refusal.
+// Kept (5): what is written goes through the handle `rt` that `main` is given; a struct of it and what is shown would be
+// made for one call.
 fn say<T: Display + Drop>(rt: &impl Print, name: &str, bytes: &[u8], read: Read<Counted<T>>) {
     let _ = print!(rt; "{name}{}: ", Hex(bytes));
     let _ = match read {
@@ -15,12 +17,12 @@ fn say<T: Display + Drop>(rt: &impl Print, name: &str, bytes: &[u8], read: Read<
     };
 }
 
-// A function for each reader: one for all of them would take the reader in each line of `main`.
-
+// Kept (2): name and reader stand here once; one function for both would be given them in each of the 13 lines of `main` that call these.
 pub fn unsigned(rt: &impl Print, bytes: &[u8]) {
     say(rt, "unsigned", bytes, read_uleb128(bytes, 0));
 }
 
+// Kept (2): as `unsigned`.
 pub fn short(rt: &impl Print, bytes: &[u8]) {
     say(rt, "16-bit", bytes, read_uleb128_u16(bytes, 0));
 }

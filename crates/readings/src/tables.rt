@@ -2,10 +2,12 @@
 
 ghost use Rattle.std.specs.Prelude.{◌≤◌};
 
-use abbrev::table::DebugAbbrev;
+use abbrev::lent::LentRows;
 use reader::error::Error;
 
 // A table of one abbreviation with so many attributes, and what the table call answers.
+// Kept (6): fixed memory, as a table is lent; the section's bytes are a head, the pairs and zeros, and the pairs are
+// written as an array of two each.
 fn table(n: usize) -> Result<usize, Error>
     requires { n ≤ 65 }
 {
@@ -16,7 +18,11 @@ fn table(n: usize) -> Result<usize, Error>
     pairs.fill([3, 0x0b]);
     let mut rows = [0; 5];
     let mut specs = [0; 195];
-    DebugAbbrev::abbreviations(&section, 0, &mut rows, &mut specs)
+    LentRows {
+        rows: &mut rows,
+        specs: &mut specs,
+    }
+    .read_table(&section, 0)
 }
 
 pub fn pairs(rt: &impl Print, n: usize)

@@ -1,6 +1,9 @@
 // The function that a case names, called with the case's numbers. None where a number does not fit its
 // parameter, or one that has no parameter is not 0.
 
+ghost use Rattle.std.specs.Mem.{type_size};
+ghost use Rattle.std.specs.Prelude.{◌≤◌};
+
 use crate::case::Case;
 use crate::kind::Kind;
 use crate::words;
@@ -28,14 +31,11 @@ fn leading<const N: usize>(numbers: &[u64; 10]) -> Option<[u64; N]> {
 }
 
 fn flag(n: u64) -> Option<bool> {
-    match n {
-        0 => Some(false),
-        1 => Some(true),
-        _ => None,
-    }
+    (n < 2).then_some(n == 1)
 }
 
 // What takes a place.
+// Kept (5): what is called on a case, and where its words go: a struct of the three would be made in `call` for one use.
 fn at_place<F: Fn(&[u8], usize, &mut [u64]) -> u64>(
     case: &Case,
     function: F,
@@ -165,66 +165,30 @@ fn get(case: &Case, out: &mut [u64]) -> Option<u64> {
     Some(tehkumir_get(&rows.rows, &rows.specs, code, out))
 }
 
-// What entries are read with, as the exported functions take it.
-#[derive(Clone, Copy, Debug, PartialEq, Eq)]
-struct Opening {
-    start: usize,
-    version: u16,
-    is_64: bool,
-    width: u8,
-    is_big: bool,
-}
-
-impl Opening {
-    fn of(numbers: &[u64; 10]) -> Option<Opening> {
-        let [start, version, is_64, width, is_big] = leading::<5>(numbers)?;
-        Some(Opening {
-            start: start as usize,
-            version: u16::try_from(version).ok()?,
-            is_64: flag(is_64)?,
-            width: u8::try_from(width).ok()?,
-            is_big: flag(is_big)?,
-        })
-    }
-}
-
-fn tree(case: &Case, out: &mut [u64]) -> Option<u64> {
-    let opening = Opening::of(&case.numbers)?;
-    let mut room = [0; MOST_CALLS];
-    let levels = words::load(case.calls, &mut room);
-    let rows = Rows::filled(case.table, out);
-    Some(tehkumir_tree(
-        case.bytes,
-        opening.start,
-        opening.version,
-        opening.is_64,
-        opening.width,
-        opening.is_big,
-        &rows.rows,
-        &rows.specs,
-        levels,
-        out,
-    ))
-}
-
-// What takes calls of one byte.
-fn by_calls<F>(case: &Case, function: F, out: &mut [u64]) -> Option<u64>
+// What takes calls or levels.
+// Kept (6): fixed memory, as many as a case has room for; a Vec of them could fail.
+fn by_calls<T, F>(case: &Case, function: F, out: &mut [u64]) -> Option<u64>
 where
-    F: Fn(&[u8], usize, u16, bool, u8, bool, &[u64], &[u64], &[u8], &mut [u64]) -> u64,
-    requires { F.IsAlwaysCallable function }
+    T: TryFrom<u64, Error: Drop> + Copy + Default,
+    F: Fn(&[u8], usize, u16, bool, u8, bool, &[u64], &[u64], &[T], &mut [u64]) -> u64,
+    requires callable { F.IsAlwaysCallable function }
+    requires small { type_size T.row ≤ 8 }
 {
-    let opening = Opening::of(&case.numbers)?;
-    let mut room = [0; MOST_CALLS];
-    let mut bytes = [0; MOST_CALLS];
-    let calls = words::narrow(words::load(case.calls, &mut room), &mut bytes)?;
+    let [start, version, is_64, width, is_big] = leading::<5>(&case.numbers)?;
+    let version = u16::try_from(version).ok()?;
+    let is_64 = flag(is_64)?;
+    let width = u8::try_from(width).ok()?;
+    let is_big = flag(is_big)?;
+    let mut room = [T::default(); MOST_CALLS];
+    let calls = words::load(case.calls, &mut room)?;
     let rows = Rows::filled(case.table, out);
     Some(function(
         case.bytes,
-        opening.start,
-        opening.version,
-        opening.is_64,
-        opening.width,
-        opening.is_big,
+        start as usize,
+        version,
+        is_64,
+        width,
+        is_big,
         &rows.rows,
         &rows.specs,
         calls,
@@ -249,7 +213,7 @@ pub fn call(case: &Case, out: &mut [u64]) -> Option<u64> {
         Kind::ReadAttribute => read_attribute(case, out),
         Kind::Raw => by_calls(case, tehkumir_raw, out),
         Kind::Cursor => by_calls(case, tehkumir_cursor, out),
-        Kind::Tree => tree(case, out),
+        Kind::Tree => by_calls(case, tehkumir_tree, out),
         Kind::RawLent => by_calls(case, tehkumir_raw_lent, out),
         Kind::TypesNextUnit => in_order(case, tehkumir_types_next_unit, out),
         Kind::TypeEntry => type_entry(case, out),

@@ -5,7 +5,6 @@ ghost use Rattle.std.specs.Prelude.{◌≤◌, IfSome};
 ghost use Rattle.replay.specs.Case.{IsCounted, PartsIn};
 
 use crate::kind::Kind;
-use crate::words;
 
 // The most bytes of a case.
 pub const MOST_BYTES: usize = 16000;
@@ -46,11 +45,11 @@ pub fn parse(body: &[u8]) -> Option<Case<'_>>
     if !rest.is_empty() {
         return None;
     }
-    let mut numbers = [0; 10];
-    words::load(&head[1..], &mut numbers);
+    let (numbers, _) = head[1..].as_chunks();
+    let numbers = numbers.first_chunk()?;
     Some(Case {
         kind,
-        numbers,
+        numbers: numbers.map(u64::from_le_bytes),
         bytes,
         table,
         calls,

@@ -4,12 +4,10 @@
 
 #![tactic(auto)]
 
-ghost use Rattle.std.specs.Prelude.{◌≡◌, length, take};
-ghost use Rattle.std.specs.Counts.{IsPrefixLen};
-ghost use Rattle.std.specs.Io.KnownBytes.{Consumes};
-
 use case::MOST_BYTES;
+use std::io;
 use std::io::Read;
+use std::iter::repeat;
 use tally::Tally;
 
 mod call; // the function that a case names
@@ -30,16 +28,19 @@ fn is_expected(status: u64, out: &[u64; MOST_WORDS], expected: &[u8]) -> bool {
     let Some((stored, stored_words)) = expected.split_first_chunk() else {
         return false;
     };
-    if 8 * MOST_WORDS < stored_words.len() {
-        return false;
-    }
-    let mut wanted = [0; MOST_WORDS];
-    words::load(stored_words, &mut wanted);
-    u64::from_le_bytes(*stored) == status && *out == wanted
+    let (words, _) = stored_words.as_chunks();
+    let wanted = words.iter().map(|word| u64::from_le_bytes(*word));
+    u64::from_le_bytes(*stored) == status
+        && words.len() <= MOST_WORDS
+        && out
+            .iter()
+            .copied()
+            .eq(wanted.chain(repeat(0)).take(MOST_WORDS))
 }
 
 // Whether the function answers as expected; not where the case is malformed or a number or a call
 // does not fit.
+// Kept (6): fixed memory: the exported functions store into lent words, of which no case has more than these; a Vec of them could fail.
 fn answers(body: &[u8]) -> bool {
     let Some(case) = case::parse(body) else {
         return false;
@@ -48,46 +49,36 @@ fn answers(body: &[u8]) -> bool {
     call::call(&case, &mut out).is_some_and(|status| is_expected(status, &out, case.expected))
 }
 
-// Reads until `buf` is full, the input ends or a read fails; how many bytes it put at the start: those
-// that the input had next.
-// `shelflist` has it too: no library here reads an input, and std's `read_exact` keeps no count.
-fn read_full<R: Read>(input: &mut R, buf: &mut [u8]) -> usize
-    ensures in_bounds { IsPrefixLen result buf.new }
-    ensures bytes { Consumes (R.remaining input.old) (R.remaining input.new) (take result buf.new) }
-{
-    let mut done = 0;
-    while done < buf.len() {
-        match input.read(&mut buf[done..]) {
-            Ok(0) | Err(_) => break,
-            Ok(count) => done += count,
-        }
-    }
-    done
-}
-
 // A case that is cut short or too long.
 #[derive(Clone, Copy, Debug)]
 struct Malformed;
 
-// Reads the next case into the room for one; none at the end of the input.
+impl From<io::Error> for Malformed {
+    fn from(_error: io::Error) -> Malformed {
+        Malformed
+    }
+}
+
+// Reads the next case into the room for one; none at the end of the input, or where it cannot be read.
+// Kept (6): std's reads store into lent bytes; it has none of a whole word.
 fn next_case<'a>(
     input: &mut impl Read,
     space: &'a mut [u8; MOST_BYTES],
 ) -> Result<Option<&'a [u8]>, Malformed> {
     let mut count = [0; 4];
-    match read_full(input, &mut count) {
-        0 => return Ok(None),
-        4 => {}
-        _ => return Err(Malformed),
+    let got = input.read(&mut count).unwrap_or(0);
+    if got == 0 {
+        return Ok(None);
     }
-    let count = u32::from_le_bytes(count) as usize;
-    let body = space.get_mut(..count).ok_or(Malformed)?;
-    if read_full(input, body) < count {
-        return Err(Malformed);
-    }
+    input.read_exact(&mut count[got..])?;
+    let body = space
+        .get_mut(..u32::from_le_bytes(count) as usize)
+        .ok_or(Malformed)?;
+    input.read_exact(body)?;
     Ok(Some(body))
 }
 
+// Kept (6): fixed memory: room for one case, whose most bytes are known; a Vec of them could fail.
 fn replay(rt: &impl Print, input: &mut impl Read) -> Tally {
     let mut space = [0; MOST_BYTES];
     let mut tally = Tally::new();

@@ -7,6 +7,7 @@ ghost use Rattle.std.specs.Prelude.{◌≡◌, length, take};
 ghost use Rattle.std.specs.Counts.{IsPrefixLen};
 ghost use Rattle.std.specs.Io.KnownBytes.{Consumes};
 
+use abbrev::lent::LentRows;
 use listing::input::{Input, InputError, sections};
 use listing::list::list;
 use listing::place::ListingPlace;
@@ -16,9 +17,9 @@ use std::io::Read;
 // A piece has a line at least, and every line takes a byte of the second section, but for the last.
 const MOST_PIECES: usize = 32769;
 
-// Reads until `buf` is full, the input ends or a read fails; how many bytes it put at the start: those
+// As std's `read_exact`, which keeps no count of a shorter input, and `read_to_end`, which takes a Vec and no limit:
+// reads until `buf` is full, the input ends or a read fails; how many bytes it put at the start: those
 // that the input had next.
-// `replay` has it too: no library here reads an input, and std's `read_exact` keeps no count.
 fn read_full<R: Read>(input: &mut R, buf: &mut [u8]) -> usize
     ensures in_bounds { IsPrefixLen result buf.new }
     ensures bytes { Consumes (R.remaining input.old) (R.remaining input.new) (take result buf.new) }
@@ -34,13 +35,19 @@ fn read_full<R: Read>(input: &mut R, buf: &mut [u8]) -> usize
 }
 
 // Lists two sections piece by piece, with 256 abbreviation and 1,024 specification rows.
+// Kept (6): fixed memory: 01 says how many rows are lent, and a Vec could fail.
+// Kept (4): the lines are bytes; `print!` takes a str, so that they would have to be shown to be UTF-8.
 fn list_sections(rt: &impl Print, abbrevs: &[u8], info: &[u8]) -> io::Result<()> {
     let mut rows = [0; 1280];
     let mut specs = [0; 3072];
     let mut out = [0; 262144];
+    let mut lent = LentRows {
+        rows: &mut rows,
+        specs: &mut specs,
+    };
     let mut place = ListingPlace::default();
     for _ in 0..MOST_PIECES {
-        let piece = list(abbrevs, info, &mut rows, &mut specs, place, &mut out);
+        let piece = list(abbrevs, info, &mut lent, place, &mut out);
         rt.write_all(&out[..piece.bytes])?;
         let Some(next) = piece.next else {
             break;
@@ -51,7 +58,7 @@ fn list_sections(rt: &impl Print, abbrevs: &[u8], info: &[u8]) -> io::Result<()>
 }
 
 fn main(rt: HostRuntime) {
-    // The room for both sections and their counts.
+    // Kept (6): the room for both sections and their counts, the most that document 01 takes; a Vec of it could fail.
     let mut space = [0; 65544];
     let got = read_full(&mut rt.stdin(), &mut space);
     let input = &space[..got];
