@@ -43,14 +43,17 @@ pub fn read_abbreviation(
     taken.answer
 }
 
-// gimli's `read_attributes`, of an abbreviation. Places that hold no value hold one fixed attribute.
+// An entry's values; places that hold no value hold one fixed attribute.
+pub type Values = [Attribute; 64];
+
+// gimli's `read_attributes`, of an abbreviation.
 #[tactic(auto, using(crate::proofs::ViewLaws::attributes_refuse))]
 pub fn read_attributes(
     raw: &mut EntriesRaw,
     bytes: &[u8],
     abbreviation: Abbreviation,
     specs: &[u64],
-) -> Result<[Attribute; 64], Error>
+) -> Result<Values, Error>
     ensures { view_read_attributes entry_limit.most result raw.new ≡ raw_attributes entry_limit.most raw.old bytes.now specs.now (found_of abbreviation) }
 {
     let taken = raw.read_attributes(bytes, abbreviation, specs);

@@ -1,10 +1,9 @@
 -- Laws of a numeral that is stored from its last digit on.
 use mathlib.Core.Path.{◌≡◌, refl, sym, ap, ◌∙◌}
-use mathlib.Core.List.{List, [], ◌∷◌, ◌++◌, append_assoc, append-nil, map}
-use Prim.Native.Nat.{ℕ, zero, suc, ◌+◌, ◌-◌, ◌/◌, ◌%◌, ◌^◌, ◌≤◌, ◌<◌}
+use mathlib.Core.List.{List, [], ◌∷◌, ◌++◌, append_assoc, append-nil}
+use Prim.Native.Nat.{ℕ, ◌+◌, ◌-◌, ◌/◌, ◌%◌, ◌^◌, ◌≤◌, ◌<◌}
 use native.Mathlib.Omega.{arith}
 use native.Mathlib.Nat.{pow-le-pow_left, mod-lt}
-use lib.IntN.{ℤ, pos, negsuc, nat_abs}
 use lib.ListN.{length, drop, set, get_or, length-set}
 use Rattle.std.proofs.lemmas.List.{nil_from_length, length-drop, drop-set}
 use Rattle.std.proofs.lemmas.List.FromFn.{get_or-map-range_with_len}

@@ -3,7 +3,7 @@
 ghost use Rattle.std.specs.Prelude.{◌≡◌, ◌≤◌, length};
 ghost use Rattle.reader.specs.Sizes.{max_section};
 ghost use Rattle.reader.specs.Views.{view};
-ghost use Rattle.abbrev.specs.Lent.{Same, TabledIn};
+ghost use Rattle.abbrev.specs.Lent.{Same};
 ghost use Rattle.abbrev.specs.Table.{entry_limit};
 ghost use Rattle.entries.specs.Steps.{KeptRaw};
 ghost use Rattle.listing.specs.Listed.{ListedAs};
@@ -19,7 +19,6 @@ use super::lines::Lines;
 use super::place::ListingPlace;
 use abbrev::abbreviations::Abbreviations;
 use abbrev::lent::LentRows;
-use abbrev::table::DebugAbbrev;
 use entries::flat::pass_entries;
 use entries::raw::EntriesRaw;
 use reader::endianity::RunTimeEndian;
@@ -126,15 +125,6 @@ fn unit_at(info: &[u8], offset: usize) -> Next
     units.next(info, RunTimeEndian::Little)
 }
 
-// A unit's table. That the slices are as long as they were, the contract of `header.abbreviations` doesn't say.
-fn read_table(header: UnitHeader, abbrevs: &[u8], lent: &mut LentRows<'_>) -> Result<usize, Error>
-    ensures tabled { TabledIn abbrevs.now header.debug_abbrev_offset lent.old lent.new result }
-    ensures rows_long { length lent.new.rows.now ≡ length lent.old.rows.now }
-    ensures specs_long { length lent.new.specs.now ≡ length lent.old.specs.now }
-{
-    DebugAbbrev::abbreviations(abbrevs, header.debug_abbrev_offset, lent.rows, lent.specs)
-}
-
 // Kept (5): that the references stay the same, each method has to promise: an invariant speaks of one value, not of the
 // value before and after.
 impl Listing<'_, '_, '_, '_, '_, '_> {
@@ -153,7 +143,7 @@ impl Listing<'_, '_, '_, '_, '_, '_> {
         if bytes.is_empty() {
             return ControlFlow::Continue(());
         }
-        match read_table(header, self.abbrevs, self.lent) {
+        match header.abbreviations(self.abbrevs, self.lent) {
             Ok(_) => list_items(raw, place.unit, bytes, &self.lent.table(), self.lines),
             Err(error) => self.lines.add_last(Err(error), place),
         }

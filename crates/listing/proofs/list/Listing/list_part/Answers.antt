@@ -12,9 +12,9 @@ returns-then-is_empty-clause-written c = let e : length c.args.bytes.now ≡ 0 =
 pub returns-in-Ok-clause-written : goal.returns-in-Ok-clause-written
 returns-in-Ok-clause-written c =
     let e : length c.args.bytes.now ≡ 0 → ⊥ = search rules in
-    written_as (part_items _ _ _ _ _ e _ _ (sym c.read_table.ensures.tabled.tabled.is ∙ ap view c.in-Ok.is) c.read_table.ensures.tabled.tabled.left) (rw c.table.ensures at c.list_items.ensures)
+    written_as (part_items _ _ _ _ _ e _ _ (sym c.abbreviations.ensures.tabled.is ∙ ap view c.in-Ok.is) c.abbreviations.ensures.tabled.left) (rw c.table.ensures at c.list_items.ensures)
 
 pub returns-in-Err-clause-written : goal.returns-in-Err-clause-written
 returns-in-Err-clause-written c =
     let e : length c.args.bytes.now ≡ 0 → ⊥ = search rules in
-    written_as (part_refused _ _ _ _ _ e (sym c.read_table.ensures.tabled.tabled.is ∙ ap view c.in-Err.is)) c.add_last.ensures
+    written_as (part_refused _ _ _ _ _ e (sym c.abbreviations.ensures.tabled.is ∙ ap view c.in-Err.is)) c.add_last.ensures

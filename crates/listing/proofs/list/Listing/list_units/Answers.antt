@@ -2,7 +2,7 @@ use Rattle.std.proofs.Common.{◌≡◌, rules}
 use Rattle.std.proofs.Math.Option.{none, some}
 use Rattle.reader.specs.Answer.{got}
 use Rattle.unit.specs.Views.{view_next_unit}
-use mathlib.Core.Path.{ap, ◌∙◌}
+use mathlib.Core.Path.{ap}
 use native.Mathlib.Omega.{arith}
 use lib.ListN.{length}
 use Rattle.listing.specs.Listing.{Shelf, unit_lines}
