@@ -31,7 +31,7 @@ fn is_expected(status: u64, out: &[u64; MOST_WORDS], expected: &[u8]) -> bool {
     let (words, _) = stored_words.as_chunks();
     let wanted = words.iter().map(|word| u64::from_le_bytes(*word));
     u64::from_le_bytes(*stored) == status
-        && words.len() <= MOST_WORDS
+        && stored_words.len() <= 8 * MOST_WORDS
         && out
             .iter()
             .copied()
