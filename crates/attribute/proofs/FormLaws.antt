@@ -2,7 +2,7 @@
 use mathlib.Core.Bool.{Bool, true, false, cond, not, ◌&&◌, ◌||◌}
 use mathlib.Core.Path.{◌≡◌, refl, sym, ◌∙◌}
 use mathlib.Core.List.{List, [], ◌∷◌, map}
-use mathlib.Core.Option.{none, some}
+use mathlib.Core.Option.{Option, none, some}
 use Prim.Native.Nat.{ℕ, ◌+◌, ◌-◌, ◌≤◌, ◌<◌}
 use native.Mathlib.Omega.{arith}
 use borrow.Author.Tests.{eqb-true, ne_eqb, leb-true, lt-ltb, le-ltb}
@@ -18,6 +18,7 @@ use Rattle.reader.specs.declared.common.Encoding.{Encoding}
 use Rattle.reader.specs.declared.common.Format.{Format}
 use Rattle.reader.specs.declared.common.Format.TheVariants.{Dwarf32, Dwarf64}
 use Rattle.attribute.specs.Forms.{Form, form, forms, row_of, row_in, row, case_of}
+use Rattle.attribute.specs.Read.{ref_addr_size}
 use Rattle.attribute.specs.Skip.{ending_of, size_of, attribute_size}
 use Rattle.attribute.specs.Steps.{width_by, is_wide}
 use Rattle.attribute.specs.Value.{allow_section_offset, is_section_offset}
@@ -195,6 +196,40 @@ gnu_open c k l u = same_all (λ k. attribute_size k c) 0x1f00 0x20 none k refl l
 pub gnu_offset : (c : Encoding) (k : ℕ) → 0x1f20 ≤ k → k < 0x1f22 → attribute_size k c ≡ some (word_size c.format)
 unfolding attribute_size row row_in forms ending_of
 gnu_offset c k l u = same_all (λ k. attribute_size k c) 0x1f20 2 (some (word_size c.format)) k refl l (omega arith)
+
+-- the code's match beside the table: what the encoding decides
+abbrev pub matched : Encoding → ℕ → Option ℕ
+matched c k =
+    cond (eqb k 0x01) (some c.address_size)
+    (cond (eqb k 0x10) (some (ref_addr_size c))
+    (cond (eqb k 0x0e || (eqb k 0x17 || (eqb k 0x1d || (eqb k 0x1f || (eqb k 0x1f20 || eqb k 0x1f21))))) (some (word_size c.format)) none))
+
+-- a size of the table, else that of the match
+abbrev pub sized_by : code.Option ℕ → Option ℕ → Option ℕ
+sized_by (Some n) x = some n
+sized_by None x = x
+
+sized_all : (c : Encoding) → map (λ k. attribute_size k c) (range_with_len 0 45) ≡ map (λ k. sized_by (get_or sizes k None) (matched c k)) (range_with_len 0 45)
+unfolding attribute_size sizes row row_in forms ending_of
+sized_all c = refl
+
+matched_all : (c : Encoding) → map (λ k. attribute_size k c) (range_with_len 0x1f00 0x22) ≡ map (matched c) (range_with_len 0x1f00 0x22)
+unfolding attribute_size row row_in forms ending_of
+matched_all c = refl
+
+-- functions of a number that are computed to be the same over a range
+same_over : {X : Type 0} (f g : ℕ → X) (a n k : ℕ) → map f (range_with_len a n) ≡ map g (range_with_len a n) → a ≤ k → k < a + n → f k ≡ g k
+same_over f g a n k h l u =
+    let i : k - a < n = omega arith in
+    sym (get_or-map-range_with_len f a n (k - a) k (f k) i (omega arith)) ∙ rw h (get_or-map-range_with_len g a n (k - a) k (f k) i (omega arith))
+
+-- table and match together, of the forms of the standard
+pub whole_at : (c : Encoding) (k : ℕ) → k < 45 → attribute_size k c ≡ sized_by (get_or sizes k None) (matched c k)
+whole_at c k h = same_over (λ k. attribute_size k c) (λ k. sized_by (get_or sizes k None) (matched c k)) 0 45 k (sized_all c) (omega arith) (omega arith)
+
+-- and of GNU's
+pub gnu_at : (c : Encoding) (k : ℕ) → 0x1f00 ≤ k → k < 0x1f22 → attribute_size k c ≡ matched c k
+gnu_at c k l u = same_over (λ k. attribute_size k c) (matched c) 0x1f00 0x22 k (matched_all c) l (omega arith)
 
 -- the forms that neither the table nor GNU's range has
 outside : ℕ → Bool

@@ -140,7 +140,8 @@ pub(crate) fn value_of(encoding: Encoding, name: u16, value: Value) -> Attribute
 
 impl From<AttributeValue> for Value {
     fn from(value: AttributeValue) -> Value
-        ensures { result ≡ view_value value }
+        ensures is { result ≡ view_value value }
+        ensures fits { Fits result.kind result.low result.high }
     {
         let (kind, low, high) = match value {
             AttributeValue::Addr(n) => (Kind::Addr, n, 0),

@@ -3,7 +3,7 @@ use Rattle.std.specs.Prelude.{◌≡◌, List, ℕ, ◌/◌, length, Result}
 use Rattle.reader.specs.Views.{view_by}
 use Rattle.reader.specs.declared.endianity.RunTimeEndian.{RunTimeEndian}
 use Rattle.reader.specs.declared.error.Error.{Error}
-use Rattle.abbrev.specs.Lent.{Same}
+use Rattle.abbrev.specs.Lent.{Same, SameLengths}
 use Rattle.abbrev.specs.Rows.{Left}
 use Rattle.abbrev.specs.Table.{entry_limit}
 use Rattle.abbrev.specs.declared.lent.LentRows.{LentRows}
@@ -21,4 +21,5 @@ pub record Opened (sec : UnitSection) (abbrevs units : List ℕ) (offset : ℕ) 
 -- the same in the lent words
 pub record OpenedIn (sec : UnitSection) (abbrevs units : List ℕ) (offset : ℕ) (e : RunTimeEndian) (l l' : LentRows) (r : Result (UnitHeader × EntriesCursor) Error) : Type 0 where
   pub same : Same l l'
+  pub lengths : SameLengths l l'
   pub opened : Opened sec abbrevs units offset e l.rows.now l.specs.now l'.rows.now l'.specs.now r

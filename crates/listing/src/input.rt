@@ -9,7 +9,6 @@ use reader::endianity::RunTimeEndian;
 use reader::error::Error;
 use reader::fields::skip;
 use reader::words::read_u32;
-use std::ops::Range;
 
 // The bytes of a section that are taken at most.
 pub const MOST: u64 = 32768;
@@ -30,16 +29,22 @@ impl From<Error> for InputError {
     }
 }
 
-// Where the sections lie.
-#[derive(Clone, Debug, PartialEq, Eq, Drop)]
+// Where a section lies, from its first byte up to its end.
+#[derive(Clone, Copy, Debug, PartialEq, Eq)]
+pub struct Section {
+    pub start: usize,
+    pub end: usize,
+}
+
+#[derive(Clone, Copy, Debug, PartialEq, Eq)]
 pub struct Input {
-    pub abbrevs: Range<usize>,
-    pub info: Range<usize>,
+    pub abbrevs: Section,
+    pub info: Section,
 }
 
 // A section after its count.
 #[tactic(auto, using(reader::proofs::FieldLaws::skip_in), unfolding(crate::specs::Input::section_at))]
-pub fn section_at(input: &[u8], at: usize) -> Result<Range<usize>, InputError>
+pub fn section_at(input: &[u8], at: usize) -> Result<Section, InputError>
     ensures lies { view_section result ≡ section_at input.now at }
     ensures inside { IfOk result (Within input.now) }
 {
@@ -48,7 +53,7 @@ pub fn section_at(input: &[u8], at: usize) -> Result<Range<usize>, InputError>
         return Err(InputError::TooLong);
     }
     let end = skip(input, start, count)?;
-    Ok(start..end)
+    Ok(Section { start, end })
 }
 
 // Both sections, judged in the order of the bytes.

@@ -26,7 +26,9 @@ fn read_long_length(bytes: &[u8], at: usize, endian: RunTimeEndian) -> Read<Init
     Ok((initial, next))
 }
 
+// In line, since a call has the answer stored, and loaded again at once: every header begins with one.
 #[tactic(auto, unfolding(crate::specs::Fields::initial_length_at))]
+#[inline(always)]
 pub fn read_initial_length(bytes: &[u8], at: usize, endian: RunTimeEndian) -> Read<Initial>
     ensures { view_read result ≡ initial_length_at bytes.now at endian }
 {

@@ -4,10 +4,12 @@
 
 #![tactic(auto)]
 
+ghost use Rattle.std.specs.Prelude.{◌≡◌, true, length, take};
+ghost use Rattle.std.specs.Counts.{IsPrefixLen};
+ghost use Rattle.std.specs.Io.KnownBytes.{Consumes};
+
 use case::MOST_BYTES;
-use std::io;
 use std::io::Read;
-use std::iter::repeat;
 use tally::Tally;
 
 mod call; // the function that a case names
@@ -22,20 +24,25 @@ const MOST_CASES: u64 = 1000000;
 // The most words of an answer.
 const MOST_WORDS: usize = 1024;
 
+// Whether two slices have the same words.
+// Kept (4): `==` alone would say in no contract that all words are compared.
+fn same(a: &[u64], b: &[u64]) -> bool
+    ensures { (result ≡ true → a.now ≡ b.now) × (a.now ≡ b.now → result ≡ true) }
+{
+    a == b
+}
+
 // Whether a status and words are the expected ones: a word for the status, then the others, and
 // zeros behind them.
+// Kept (6): fixed memory, as many words as are lent for an answer; a Vec of them could fail.
 fn is_expected(status: u64, out: &[u64; MOST_WORDS], expected: &[u8]) -> bool {
     let Some((stored, stored_words)) = expected.split_first_chunk() else {
         return false;
     };
-    let (words, _) = stored_words.as_chunks();
-    let wanted = words.iter().map(|word| u64::from_le_bytes(*word));
+    let mut wanted = [0; MOST_WORDS];
     u64::from_le_bytes(*stored) == status
-        && stored_words.len() <= 8 * MOST_WORDS
-        && out
-            .iter()
-            .copied()
-            .eq(wanted.chain(repeat(0)).take(MOST_WORDS))
+        && words::load::<u64>(stored_words, &mut wanted).is_some()
+        && same(out, &wanted)
 }
 
 // Whether the function answers as expected; not where the case is malformed or a number or a call
@@ -53,28 +60,42 @@ fn answers(body: &[u8]) -> bool {
 #[derive(Clone, Copy, Debug)]
 struct Malformed;
 
-impl From<io::Error> for Malformed {
-    fn from(_error: io::Error) -> Malformed {
-        Malformed
+// Reads until `buf` is full, the input ends or a read fails; how many bytes it put at the start: those
+// that the input had next.
+// Kept (2): std's `read_exact` goes on where a read is interrupted, and says nothing of what a shorter input left in
+// `buf`; a library for this function of `shelflist` and `replay` would bring reading to those that have none.
+fn read_full<R: Read>(input: &mut R, buf: &mut [u8]) -> usize
+    ensures in_bounds { IsPrefixLen result buf.new }
+    ensures bytes { Consumes (R.remaining input.old) (R.remaining input.new) (take result buf.new) }
+{
+    let mut done = 0;
+    while done < buf.len() {
+        match input.read(&mut buf[done..]) {
+            Ok(0) | Err(_) => break,
+            Ok(count) => done += count,
+        }
     }
+    done
 }
 
 // Reads the next case into the room for one; none at the end of the input, or where it cannot be read.
-// Kept (6): std's reads store into lent bytes; it has none of a whole word.
+// Kept (6): reads store into lent bytes; std has none of a whole word.
 fn next_case<'a>(
     input: &mut impl Read,
     space: &'a mut [u8; MOST_BYTES],
 ) -> Result<Option<&'a [u8]>, Malformed> {
     let mut count = [0; 4];
-    let got = input.read(&mut count).unwrap_or(0);
-    if got == 0 {
-        return Ok(None);
+    match read_full(input, &mut count) {
+        0 => return Ok(None),
+        1..4 => return Err(Malformed),
+        _ => {}
     }
-    input.read_exact(&mut count[got..])?;
     let body = space
         .get_mut(..u32::from_le_bytes(count) as usize)
         .ok_or(Malformed)?;
-    input.read_exact(body)?;
+    if read_full(input, body) < body.len() {
+        return Err(Malformed);
+    }
     Ok(Some(body))
 }
 

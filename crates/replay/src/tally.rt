@@ -2,7 +2,7 @@
 
 use crate::kind::{KINDS, Kind};
 
-#[derive(Debug, Drop)]
+#[derive(Clone, Copy, Debug)]
 pub struct Tally {
     cases: u64,
     differences: u64,

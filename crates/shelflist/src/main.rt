@@ -20,6 +20,7 @@ const MOST_PIECES: usize = 32769;
 // As std's `read_exact`, which keeps no count of a shorter input, and `read_to_end`, which takes a Vec and no limit:
 // reads until `buf` is full, the input ends or a read fails; how many bytes it put at the start: those
 // that the input had next.
+// Kept (2): as in `replay`.
 fn read_full<R: Read>(input: &mut R, buf: &mut [u8]) -> usize
     ensures in_bounds { IsPrefixLen result buf.new }
     ensures bytes { Consumes (R.remaining input.old) (R.remaining input.new) (take result buf.new) }
@@ -64,7 +65,11 @@ fn main(rt: HostRuntime) {
     let input = &space[..got];
     // The program ends then, whether or not a write failed.
     let _ = match sections(input) {
-        Ok(Input { abbrevs, info }) => list_sections(&rt, &input[abbrevs], &input[info]),
+        Ok(Input { abbrevs, info }) => list_sections(
+            &rt,
+            &input[abbrevs.start..abbrevs.end],
+            &input[info.start..info.end],
+        ),
         Err(InputError::TooLong) => println!(rt; "too long"),
         Err(InputError::Short) => println!(rt; "short"),
     };

@@ -2,7 +2,7 @@
 use Rattle.std.specs.Prelude.{◌≡◌, List, ℕ, length, Result}
 use Rattle.reader.specs.Answer.{Answer}
 use Rattle.reader.specs.declared.endianity.RunTimeEndian.{RunTimeEndian}
-use Rattle.abbrev.specs.Lent.{Same}
+use Rattle.abbrev.specs.Lent.{Same, SameLengths}
 use Rattle.abbrev.specs.Rows.{Left}
 use Rattle.abbrev.specs.Table.{entry_limit}
 use Rattle.abbrev.specs.declared.lent.LentRows.{LentRows}
@@ -21,4 +21,5 @@ pub record TypeRead (abbrevs units : List ℕ) (e : RunTimeEndian) (unit : Answe
 -- the same in the lent words
 pub record TypeReadIn (abbrevs units : List ℕ) (e : RunTimeEndian) (unit : Answer UnitHeader) (l l' : LentRows) (r : Result (UnitHeader × Entry) Error) : Type 0 where
   pub same : Same l l'
+  pub lengths : SameLengths l l'
   pub read : TypeRead abbrevs units e unit l.rows.now l.specs.now l'.rows.now l'.specs.now r

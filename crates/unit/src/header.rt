@@ -75,6 +75,7 @@ impl UnitHeader {
         Ok(end as u64)
     }
 
+    // Kept (5): the same number by three of gimli's names.
     #[tactic(auto, unfolding(crate::specs::Header::size_of_header))]
     pub fn size_of_header(self) -> usize
         ensures { result ≡ size_of_header self }
@@ -90,7 +91,15 @@ impl UnitHeader {
         usize::from(format.initial_length_size()) + 3 + word_size + own + type_byte
     }
 
+    // Kept (2): gimli has both names.
+    pub fn header_size(self) -> usize
+        ensures { result ≡ size_of_header self }
+    {
+        self.root_offset()
+    }
+
     // Where the entries start.
+    // Kept (2): as `header_size`.
     pub fn root_offset(self) -> usize
         ensures { result ≡ size_of_header self }
     {
